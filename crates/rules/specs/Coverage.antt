@@ -1,0 +1,123 @@
+-- "Coverage" (what the Diesel report calls a complete, consistent and conforming implementation of a signature), and the verdict.
+-- Assumes nothing.
+use Prim.Native.Nat.{ℕ}
+use mathlib.Core.Path.{_≡_}
+use mathlib.Core.Bool.{Bool, true, false, cond, not, _&&_}
+use mathlib.Core.List.{List, [], _∷_, _++_, map}
+use mathlib.Core.Option.{Option, none, some}
+use lib.Dec.{ltb}
+use Rattle.rules.specs.Bounded.{upto, every, keep, first}
+use Rattle.rules.specs.Layout.{Answer, gives, refuses, padded}
+use Rattle.rules.specs.Model.{Model}
+use Rattle.rules.specs.Subclass.{subclass, under}
+use Rattle.rules.specs.Lookup.{Found, found, missing, ambiguous, lookup}
+use Rattle.rules.specs.Types.{Typing, typed, breaks, typeBody}
+
+-- "A signature covers argument classes that are each under its own."
+unfoldable pub covers : Model → ℕ → List ℕ → Bool
+covers M s args = under M args (M .sigArgs s)
+
+-- "Declared classes hold the arguments when each argument class is under the declared class at its place."
+unfoldable pub declaredHold : Model → ℕ → List ℕ → Bool
+declaredHold M m args = under M args (M .declared m)
+
+-- The coverage rule for one tuple: it holds with a method, or fails by a number that names methods.
+pub data Judgement : Type 0 where
+  holds : ℕ → Judgement
+  fails : ℕ → List ℕ → Judgement
+
+-- "lookup finds one method (else 10 or 11), each class is under that method's declared class (else 12), and the method's result class is under the
+-- signature's (else 13); the reasons are tried in that order"
+unfoldable pub judgeFound : Model → ℕ → List ℕ → Found → Judgement
+judgeFound M s args missing = fails 10 []
+judgeFound M s args (ambiguous m n) = fails 11 (m ∷ n ∷ [])
+judgeFound M s args (found m) =
+    cond (declaredHold M m args)
+    (cond (subclass M (M .result m) (M .sigResult s)) (holds m) (fails 13 (m ∷ [])))
+    (fails 12 (m ∷ []))
+
+unfoldable pub judge : Model → ℕ → List ℕ → Judgement
+judge M s args = judgeFound M s args (lookup M (M .sigFunction s) args)
+
+unfoldable pub failing : Judgement → Bool
+failing (holds m) = false
+failing (fails number ms) = true
+
+-- a concrete class of the bundle
+unfoldable pub concreteClass : Model → ℕ → Bool
+concreteClass M c = ltb c (M .classes) && M .concrete c
+
+-- the concrete classes under c, in number order
+unfoldable pub concreteUnder : Model → ℕ → List ℕ
+concreteUnder M c = keep (λ k. concreteClass M k && subclass M k c) (upto (M .classes))
+
+-- each list with each element in front of it, the elements turning slowest
+unfoldable pub prefixed : List ℕ → List (List ℕ) → List (List ℕ)
+prefixed [] tails = []
+prefixed (k ∷ ks) tails = map (λ t. k ∷ t) tails ++ prefixed ks tails
+
+-- "Tuples are built place by place …; with no arguments there is one empty tuple": the tuples of concrete classes under the given ones
+unfoldable pub tuples : Model → List ℕ → List (List ℕ)
+tuples M [] = [] ∷ []
+tuples M (c ∷ cs) = prefixed (concreteUnder M c) (tuples M cs)
+
+unfoldable pub brokenTuple : Model → ℕ → Option (List ℕ)
+brokenTuple M s = first (λ t. failing (judge M s t)) (tuples M (M .sigArgs s))
+
+unfoldable pub isSome : {A : Type 0} → Option A → Bool
+isSome none = false
+isSome (some x) = true
+
+-- "The check stops at the lowest-numbered broken signature"
+unfoldable pub brokenSignature : Model → Option ℕ
+brokenSignature M = first (λ s. isSome (brokenTuple M s)) (upto (M .signatures))
+
+unfoldable pub breaking : Typing → Bool
+breaking typed = false
+breaking (breaks number at) = true
+
+-- "The lowest broken method and its first broken instruction are named"
+unfoldable pub brokenMethod : Model → Option ℕ
+brokenMethod M = first (λ m. breaking (typeBody M m)) (upto (M .methods))
+
+-- the refusal of a tuple under a signature: "signature, function, tuple, method(s)"
+unfoldable pub coverageRefusal : Model → ℕ → List ℕ → Judgement → Answer (Unit {0})
+coverageRefusal M s args (holds m) = gives tt
+coverageRefusal M s args (fails number ms) = refuses number (s ∷ M .sigFunction s ∷ padded args ++ ms)
+
+unfoldable pub bodyRefusal : ℕ → Typing → Answer (Unit {0})
+bodyRefusal m typed = gives tt
+bodyRefusal m (breaks number at) = refuses number (m ∷ at ∷ [])
+
+unfoldable pub bodyVerdict : Model → Option ℕ → Answer (Unit {0})
+bodyVerdict M none = gives tt
+bodyVerdict M (some m) = bodyRefusal m (typeBody M m)
+
+-- "coverage before bodies"; the tuple is the one that a coverage refusal names
+unfoldable pub coverageVerdict : Model → Option ℕ → List ℕ → Answer (Unit {0})
+coverageVerdict M none args = bodyVerdict M (brokenMethod M)
+coverageVerdict M (some s) args = coverageRefusal M s args (judge M s args)
+
+unfoldable pub verdictNaming : Model → List ℕ → Answer (Unit {0})
+verdictNaming M args = coverageVerdict M (brokenSignature M) args
+
+-- "names some broken tuple of it": a tuple of concrete classes that the lowest broken signature, if there is one, covers, and for which the rule fails
+pub record Names (M : Model) (args : List ℕ) (s : ℕ) : Type 0 where
+  pub covered : covers M s args ≡ true
+  pub concrete : every (concreteClass M) args ≡ true
+  pub broken : failing (judge M s args) ≡ true
+
+abbrev pub NamesBroken : Model → List ℕ → Type 0
+NamesBroken M args = (s : ℕ) → brokenSignature M ≡ some s → Names M args s
+
+unfoldable pub tupleOr : Option (List ℕ) → List ℕ
+tupleOr none = []
+tupleOr (some args) = args
+
+unfoldable pub firstBroken : Model → Option ℕ → List ℕ
+firstBroken M none = []
+firstBroken M (some s) = tupleOr (brokenTuple M s)
+
+-- the verdict that names the first broken tuple, the leftmost argument turning slowest
+unfoldable pub verdict : Model → Answer (Unit {0})
+verdict M = verdictNaming M (firstBroken M (brokenSignature M))

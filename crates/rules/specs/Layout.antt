@@ -1,0 +1,276 @@
+-- "The bundle": the directory, the records, the rule of each as a test that computes, and opening.
+-- Assumes nothing.
+use Prim.Native.Nat.{ℕ, zero, suc, _+_, _*_, _/_, _%_}
+use mathlib.Core.Bool.{Bool, true, false, not, _&&_, _||_, Bool·beq}
+use mathlib.Core.List.{List, [], _∷_, _++_}
+use mathlib.Core.Option.{Option, none, some}
+use lib.Dec.{leb, ltb, eqb}
+use lib.ListN.{length, take, drop, replicate}
+use Rattle.rules.specs.Bounded.{upto, sum, every, any, first, matching}
+use Rattle.rules.specs.Bytes.{byte, word, part}
+
+-- A call's answer: what it gives, or one of document 01's numbers with the values that the table names beside it.
+pub data Answer (A : Type 0) : Type 0 where
+  gives : A → Answer A
+  refuses : ℕ → List ℕ → Answer A
+
+-- "The limits belong to the bundle itself: 1 to 128 classes, at most 64 functions, 256 signatures, 512 methods, 3 arguments."
+abbrev pub maxClasses : ℕ
+maxClasses = 128
+
+abbrev pub maxFunctions : ℕ
+maxFunctions = 64
+
+abbrev pub maxSignatures : ℕ
+maxSignatures = 256
+
+abbrev pub maxMethods : ℕ
+maxMethods = 512
+
+abbrev pub places : ℕ
+places = 3
+
+-- The six sections of the directory, in its order, and the bytes of a record of each.
+abbrev pub classSection : ℕ
+classSection = 0
+
+abbrev pub parentSection : ℕ
+parentSection = 1
+
+abbrev pub functionSection : ℕ
+functionSection = 2
+
+abbrev pub signatureSection : ℕ
+signatureSection = 3
+
+abbrev pub methodSection : ℕ
+methodSection = 4
+
+abbrev pub codeSection : ℕ
+codeSection = 5
+
+abbrev pub classBytes : ℕ
+classBytes = 6
+
+abbrev pub signatureBytes : ℕ
+signatureBytes = 5
+
+abbrev pub methodBytes : ℕ
+methodBytes = 12
+
+-- "six pairs, each a two-byte offset and a two-byte length in bytes"
+unfoldable pub offset : List ℕ → ℕ → ℕ
+offset b k = word b (4 * k)
+
+unfoldable pub extent : List ℕ → ℕ → ℕ
+extent b k = word b (4 * k + 2)
+
+unfoldable pub sectionEnd : List ℕ → ℕ → ℕ
+sectionEnd b k = offset b k + extent b k
+
+-- "A bundle is 24 to 65,535 bytes."
+unfoldable pub sizeRule : List ℕ → Bool
+sizeRule b = leb 24 (length b) && leb (length b) 65535
+
+-- "The first offset is 24, each next offset is the last offset plus the last length, and the last section ends the bundle."
+unfoldable pub chainRule : List ℕ → Bool
+chainRule b =
+    eqb (offset b classSection) 24
+    && every (λ k. eqb (offset b (suc k)) (sectionEnd b k)) (upto codeSection)
+    && eqb (sectionEnd b codeSection) (length b)
+
+-- "classes, signatures or methods not whole records; or an odd code section, or code without methods"
+unfoldable pub wholeRule : List ℕ → Bool
+wholeRule b =
+    eqb (extent b classSection % classBytes) 0
+    && eqb (extent b signatureSection % signatureBytes) 0
+    && eqb (extent b methodSection % methodBytes) 0
+    && eqb (extent b codeSection % 2) 0
+    && (ltb 0 (extent b methodSection) || eqb (extent b codeSection) 0)
+
+unfoldable pub classCount : List ℕ → ℕ
+classCount b = extent b classSection / classBytes
+
+unfoldable pub functionCount : List ℕ → ℕ
+functionCount b = extent b functionSection
+
+unfoldable pub signatureCount : List ℕ → ℕ
+signatureCount b = extent b signatureSection / signatureBytes
+
+unfoldable pub methodCount : List ℕ → ℕ
+methodCount b = extent b methodSection / methodBytes
+
+-- "more classes, functions, signatures or methods than the limit, or no class"
+unfoldable pub limitRule : List ℕ → Bool
+limitRule b =
+    ltb 0 (classCount b)
+    && leb (classCount b) maxClasses
+    && leb (functionCount b) maxFunctions
+    && leb (signatureCount b) maxSignatures
+    && leb (methodCount b) maxMethods
+
+-- "The lists follow in class order from offset 0 without gaps and end the section", and so do the bodies. Record k's list lies within its section,
+-- begins where the lengths before it add up to, and, "an unfinished list is put to the last record", ends the section where k is the last of n.
+unfoldable pub sequenceRule : (ℕ → ℕ) → (ℕ → ℕ) → ℕ → ℕ → ℕ → Bool
+sequenceRule start size n end k =
+    eqb (start k) (sum size k)
+    && leb (start k + size k) end
+    && (ltb (suc k) n || eqb (start k + size k) end)
+
+-- "Unused argument places hold 0. Every class and function that a record names is present." Of a tuple the first n places are used.
+unfoldable pub tupleRule : ℕ → ℕ → List ℕ → Bool
+tupleRule classes n tuple = every (λ c. ltb c classes) (take n tuple) && every (λ c. eqb c 0) (drop n tuple)
+
+-- "Class, 6 bytes: kind (0 abstract, 1 concrete), a zero byte, offset and length of its parent list within the parents section."
+unfoldable pub classAt : List ℕ → ℕ → ℕ
+classAt b c = offset b classSection + classBytes * c
+
+unfoldable pub kindOf : List ℕ → ℕ → ℕ
+kindOf b c = byte b (classAt b c)
+
+unfoldable pub listOffset : List ℕ → ℕ → ℕ
+listOffset b c = word b (classAt b c + 2)
+
+unfoldable pub listLength : List ℕ → ℕ → ℕ
+listLength b c = word b (classAt b c + 4)
+
+unfoldable pub parentsOf : List ℕ → ℕ → List ℕ
+parentsOf b c = part b (offset b parentSection + listOffset b c) (listLength b c)
+
+-- "a list rises strictly": each element is above the one before it, which the first argument gives
+unfoldable pub risesAbove : ℕ → List ℕ → Bool
+risesAbove x [] = true
+risesAbove x (y ∷ ys) = ltb x y && risesAbove y ys
+
+unfoldable pub rises : List ℕ → Bool
+rises [] = true
+rises (x ∷ xs) = risesAbove x xs
+
+-- "A parent is one byte, a class number lower than the class's own; a list rises strictly. Class 0 has no parent, every other class at least one."
+unfoldable pub classRule : List ℕ → ℕ → Bool
+classRule b c =
+    leb (kindOf b c) 1
+    && eqb (byte b (classAt b c + 1)) 0
+    && sequenceRule (listOffset b) (listLength b) (classCount b) (extent b parentSection) c
+    && every (λ p. ltb p c) (parentsOf b c)
+    && rises (parentsOf b c)
+    && Bool·beq (eqb c 0) (eqb (listLength b c) 0)
+
+-- "Function, 1 byte: its argument count, 0 to 3."
+unfoldable pub arityOf : List ℕ → ℕ → ℕ
+arityOf b f = byte b (offset b functionSection + f)
+
+unfoldable pub functionRule : List ℕ → ℕ → Bool
+functionRule b f = leb (arityOf b f) places
+
+-- "Signature, 5 bytes: function, three argument classes, result class."
+unfoldable pub signatureAt : List ℕ → ℕ → ℕ
+signatureAt b s = offset b signatureSection + signatureBytes * s
+
+unfoldable pub sigFunctionOf : List ℕ → ℕ → ℕ
+sigFunctionOf b s = byte b (signatureAt b s)
+
+unfoldable pub sigTupleOf : List ℕ → ℕ → List ℕ
+sigTupleOf b s = part b (signatureAt b s + 1) places
+
+unfoldable pub sigResultOf : List ℕ → ℕ → ℕ
+sigResultOf b s = byte b (signatureAt b s + 4)
+
+unfoldable pub signatureRule : List ℕ → ℕ → Bool
+signatureRule b s =
+    ltb (sigFunctionOf b s) (functionCount b)
+    && tupleRule (classCount b) (arityOf b (sigFunctionOf b s)) (sigTupleOf b s)
+    && ltb (sigResultOf b s) (classCount b)
+
+-- "Method, 12 bytes: function, three specialisers, three declared classes, result class, offset and length of its body within the code section."
+unfoldable pub methodAt : List ℕ → ℕ → ℕ
+methodAt b m = offset b methodSection + methodBytes * m
+
+unfoldable pub functionOf : List ℕ → ℕ → ℕ
+functionOf b m = byte b (methodAt b m)
+
+unfoldable pub specialiserTupleOf : List ℕ → ℕ → List ℕ
+specialiserTupleOf b m = part b (methodAt b m + 1) places
+
+unfoldable pub declaredTupleOf : List ℕ → ℕ → List ℕ
+declaredTupleOf b m = part b (methodAt b m + 4) places
+
+unfoldable pub resultOf : List ℕ → ℕ → ℕ
+resultOf b m = byte b (methodAt b m + 7)
+
+unfoldable pub bodyOffset : List ℕ → ℕ → ℕ
+bodyOffset b m = word b (methodAt b m + 8)
+
+unfoldable pub bodyLength : List ℕ → ℕ → ℕ
+bodyLength b m = word b (methodAt b m + 10)
+
+unfoldable pub codeOf : List ℕ → ℕ → List ℕ
+codeOf b m = part b (offset b codeSection + bodyOffset b m) (bodyLength b m)
+
+-- "Bodies follow in method order from offset 0 without gaps and end the section; each is 2 to 128 bytes, an even number."
+unfoldable pub methodRule : List ℕ → ℕ → Bool
+methodRule b m =
+    ltb (functionOf b m) (functionCount b)
+    && tupleRule (classCount b) (arityOf b (functionOf b m)) (specialiserTupleOf b m)
+    && tupleRule (classCount b) (arityOf b (functionOf b m)) (declaredTupleOf b m)
+    && ltb (resultOf b m) (classCount b)
+    && sequenceRule (bodyOffset b) (bodyLength b) (methodCount b) (extent b codeSection) m
+    && leb 2 (bodyLength b m)
+    && leb (bodyLength b m) 128
+    && eqb (bodyLength b m % 2) 0
+
+-- "Two methods of one function never have equal specialisers." Unused places are 0 in both by the rule before.
+unfoldable pub twins : List ℕ → ℕ → ℕ → Bool
+twins b m n = eqb (functionOf b m) (functionOf b n) && matching eqb (specialiserTupleOf b m) (specialiserTupleOf b n)
+
+-- "an earlier twin exists"
+unfoldable pub twinRule : List ℕ → ℕ → Bool
+twinRule b m = not (any (λ n. twins b m n) (upto m))
+
+-- "0 is ARG (operand an argument place, counted from 0), 1 is NEW (a class), 2 is SEND (a function)." The numbers are what there is of each.
+unfoldable pub instructionRule : ℕ → ℕ → ℕ → ℕ → ℕ → Bool
+instructionRule arguments classes functions zero operand = ltb operand arguments
+instructionRule arguments classes functions (suc zero) operand = ltb operand classes
+instructionRule arguments classes functions (suc (suc zero)) operand = ltb operand functions
+instructionRule arguments classes functions (suc (suc (suc n))) operand = false
+
+-- "Instruction, 2 bytes: operation and operand."
+unfoldable pub everyPair : (ℕ → ℕ → Bool) → List ℕ → Bool
+everyPair p [] = true
+everyPair p (x ∷ []) = false
+everyPair p (x ∷ y ∷ rest) = p x y && everyPair p rest
+
+-- "unknown operation, or an operand that is no argument place of the method's function, no class or no function of the bundle"
+unfoldable pub codeRule : List ℕ → ℕ → Bool
+codeRule b m = everyPair (instructionRule (arityOf b (functionOf b m)) (classCount b) (functionCount b)) (codeOf b m)
+
+-- A rule on the whole bundle: broken, it is the number alone.
+unfoldable pub require : {A : Type 0} → Bool → ℕ → Answer A → Answer A
+require true number rest = rest
+require false number rest = refuses number []
+
+-- A rule on records: "naming the lowest that breaks it".
+unfoldable pub lowest : (ℕ → Bool) → ℕ → Option ℕ
+lowest rule n = first (λ k. not (rule k)) (upto n)
+
+unfoldable pub requireEach : {A : Type 0} → Option ℕ → ℕ → Answer A → Answer A
+requireEach none number rest = rest
+requireEach (some k) number rest = refuses number (k ∷ [])
+
+-- "Order: 1 to 9, each for all its records before the next and naming the lowest that breaks it." An opened bundle gives its four counts.
+unfoldable pub opening : List ℕ → Answer (List ℕ)
+opening b =
+    require (sizeRule b) 1
+    (require (chainRule b && wholeRule b) 2
+    (require (limitRule b) 3
+    (requireEach (lowest (classRule b) (classCount b)) 4
+    (requireEach (lowest (functionRule b) (functionCount b)) 5
+    (requireEach (lowest (signatureRule b) (signatureCount b)) 6
+    (requireEach (lowest (methodRule b) (methodCount b)) 7
+    (requireEach (lowest (twinRule b) (methodCount b)) 8
+    (requireEach (lowest (codeRule b) (methodCount b)) 9
+    (gives (classCount b ∷ functionCount b ∷ signatureCount b ∷ methodCount b ∷ []))))))))))
+
+-- The tuple of `places` numbers for a list of argument classes: unused places are 0.
+unfoldable pub padded : List ℕ → List ℕ
+padded args = take places (args ++ replicate places 0)

@@ -1,0 +1,13 @@
+pub mod Bounded
+pub mod Bytes
+pub mod Layout
+pub mod Model
+pub mod Subclass
+pub mod Lookup
+pub mod Types
+pub mod Coverage
+pub mod Machine
+pub mod Calls
+pub mod Samples
+pub mod Cases
+pub mod Sound

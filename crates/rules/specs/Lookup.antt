@@ -1,0 +1,54 @@
+-- "Lookup": which method a send finds.
+-- Assumes nothing.
+use Prim.Native.Nat.{ℕ}
+use mathlib.Core.Bool.{Bool, not, _&&_, _||_}
+use mathlib.Core.List.{List, [], _∷_}
+use mathlib.Core.Option.{Option, none, some}
+use lib.Dec.{eqb}
+use lib.ListN.{getD}
+use Rattle.rules.specs.Bounded.{upto, every, keep, first}
+use Rattle.rules.specs.Model.{Model}
+use Rattle.rules.specs.Subclass.{under}
+
+-- One method; none applicable (10); or applicable ones none of which is found (11), of which two are named.
+pub data Found : Type 0 where
+  found : ℕ → Found
+  missing : Found
+  ambiguous : ℕ → ℕ → Found
+
+-- "A method applies to argument classes when each class is under its specialiser."
+unfoldable pub applies : Model → List ℕ → ℕ → Bool
+applies M args m = under M args (M .specialisers m)
+
+-- the applicable methods of a function, rising
+unfoldable pub applicable : Model → ℕ → List ℕ → List ℕ
+applicable M f args = keep (λ m. eqb (M .function m) f && applies M args m) (upto (M .methods))
+
+-- "One method is at least as specific as another when each of its specialisers is under the other's."
+unfoldable pub asSpecific : Model → ℕ → ℕ → Bool
+asSpecific M m n = under M (M .specialisers m) (M .specialisers n)
+
+-- m is "at least as specific as every other applicable method"
+unfoldable pub leads : Model → List ℕ → ℕ → Bool
+leads M ms m = every (λ n. eqb n m || asSpecific M m n) ms
+
+-- m is one "that no other applicable method is at least as specific as"
+unfoldable pub unbeaten : Model → List ℕ → ℕ → Bool
+unbeaten M ms m = every (λ n. eqb n m || not (asSpecific M n m)) ms
+
+-- "naming the two lowest-numbered applicable methods that no other applicable method is at least as specific as, lower first"
+unfoldable pub rivals : Model → List ℕ → List ℕ
+rivals M ms = keep (unbeaten M ms) ms
+
+unfoldable pub leaderOr : Option ℕ → List ℕ → Found
+leaderOr (some m) rs = found m
+leaderOr none rs = ambiguous (getD rs 0 0) (getD rs 1 0)
+
+-- "A lookup finds the applicable method that is at least as specific as every other applicable method. None applicable is 10. Otherwise, where no
+-- such method exists, it is 11."
+unfoldable pub select : Model → List ℕ → Found
+select M [] = missing
+select M (m ∷ ms) = leaderOr (first (leads M (m ∷ ms)) (m ∷ ms)) (rivals M (m ∷ ms))
+
+unfoldable pub lookup : Model → ℕ → List ℕ → Found
+lookup M f args = select M (applicable M f args)

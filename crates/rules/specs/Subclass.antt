@@ -1,0 +1,26 @@
+-- "Ancestry": when a class is under a class (reflexive, transitive subclassing), in the paper's words and as a test.
+-- Assumes nothing.
+use Prim.Native.Nat.{ℕ, zero, suc}
+use mathlib.Core.Bool.{Bool, _||_}
+use mathlib.Core.List.{List, List·Memᴰ}
+use lib.Dec.{eqb}
+use Rattle.rules.specs.Bounded.{any, matching}
+use Rattle.rules.specs.Model.{Model}
+
+-- "Class a is under class b when a is b, or a parent of a is under b"
+pub data Under (M : Model) : ℕ → ℕ → Type 0 where
+  itself : {a : ℕ} → Under M a a
+  parent : {a p b : ℕ} → List·Memᴰ p (M .parents a) → Under M p b → Under M a b
+
+-- the same in at most so many steps from child to parent
+unfoldable pub subclassWithin : Model → ℕ → ℕ → ℕ → Bool
+subclassWithin M zero a b = eqb a b
+subclassWithin M (suc steps) a b = eqb a b || any (λ p. subclassWithin M steps p b) (M .parents a)
+
+-- No line of parents passes more classes than there are.
+unfoldable pub subclass : Model → ℕ → ℕ → Bool
+subclass M a b = subclassWithin M (M .classes) a b
+
+-- each class of the first list is under the class at its place in the second
+unfoldable pub under : Model → List ℕ → List ℕ → Bool
+under M = matching (subclass M)

@@ -1,0 +1,78 @@
+-- "Signatures and bodies": static types, the type of a send, the body check.
+-- Assumes nothing.
+use Prim.Native.Nat.{ℕ, suc}
+use mathlib.Core.Bool.{Bool, true, false, cond, _&&_}
+use mathlib.Core.List.{List, [], _∷_, map, reverse}
+use lib.Dec.{eqb, leb}
+use lib.ListN.{length, getD, take, drop}
+use Rattle.rules.specs.Bounded.{upto, any, every, keep, matching}
+use Rattle.rules.specs.Model.{Model, Instr, arg, new, send}
+use Rattle.rules.specs.Subclass.{subclass}
+
+-- "A static type is a set of classes. The type of a class is every class it is under." A type is given by classes whose types it joins.
+abbrev pub Static : Type 0
+Static = List ℕ
+
+-- class b is in the type
+unfoldable pub inType : Model → Static → ℕ → Bool
+inType M t b = any (λ g. subclass M g b) t
+
+-- "A signature licenses it when each of its argument classes is in the type at that place"
+unfoldable pub licenses : Model → List Static → ℕ → Bool
+licenses M types s = matching (inType M) types (M .sigArgs s)
+
+unfoldable pub licensing : Model → ℕ → List Static → List ℕ
+licensing M f types = keep (λ s. eqb (M .sigFunction s) f && licenses M types s) (upto (M .signatures))
+
+-- "The send's type is the union over all licensing signatures of their result classes' types"; without one it is empty, number 16.
+unfoldable pub sendType : Model → ℕ → List Static → Static
+sendType M f types = map (M .sigResult) (licensing M f types)
+
+-- "ARG i has the classes of its specialiser's type and its declared class's type together."
+unfoldable pub argType : Model → ℕ → ℕ → Static
+argType M m i = getD (M .specialisers m) i 0 ∷ getD (M .declared m) i 0 ∷ []
+
+-- The arguments of a send of n places from a stack whose top comes first: "last argument on top".
+unfoldable pub arguments : {A : Type 0} → ℕ → List A → List A
+arguments n stack = reverse (take n stack)
+
+-- A body types, or breaks by a number at an instruction; one instruction leaves a stack of types, or breaks by a number.
+pub data Typing : Type 0 where
+  typed : Typing
+  breaks : ℕ → ℕ → Typing
+
+pub data Effect : Type 0 where
+  leaves : List Static → Effect
+  breaksBy : ℕ → Effect
+
+-- a send whose type this is, with the stack below its arguments
+unfoldable pub sendEffect : Static → List Static → Effect
+sendEffect [] below = breaksBy 16
+sendEffect (c ∷ cs) below = leaves ((c ∷ cs) ∷ below)
+
+-- "NEW c has the type of c; c must be concrete (15). SEND takes as many types as the function has arguments (14 when there are fewer) … none is 16."
+unfoldable pub effect : Model → ℕ → List Static → Instr → Effect
+effect M m stack (arg i) = leaves (argType M m i ∷ stack)
+effect M m stack (new c) = cond (M .concrete c) (leaves ((c ∷ []) ∷ stack)) (breaksBy 15)
+effect M m stack (send f) =
+    cond (leb (M .arity f) (length stack))
+    (sendEffect (sendType M f (arguments (M .arity f) stack)) (drop (M .arity f) stack))
+    (breaksBy 14)
+
+-- "At the end exactly one type is left (14) and contains the method's result class (17)."
+unfoldable pub ending : Model → ℕ → ℕ → List Static → Typing
+ending M m at [] = breaks 14 at
+ending M m at (t ∷ []) = cond (inType M t (M .result m)) typed (breaks 17 at)
+ending M m at (t ∷ u ∷ rest) = breaks 14 at
+
+unfoldable pub afterEffect : Effect → ℕ → (List Static → Typing) → Typing
+afterEffect (leaves stack) at continue = continue stack
+afterEffect (breaksBy number) at continue = breaks number at
+
+-- "its first broken instruction", the end counting as instruction number 'length in instructions'
+unfoldable pub typeFrom : Model → ℕ → ℕ → List Static → List Instr → Typing
+typeFrom M m at stack [] = ending M m at stack
+typeFrom M m at stack (i ∷ rest) = afterEffect (effect M m stack i) at (λ next. typeFrom M m (suc at) next rest)
+
+unfoldable pub typeBody : Model → ℕ → Typing
+typeBody M m = typeFrom M m 0 [] (M .body m)
