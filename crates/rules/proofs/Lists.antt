@@ -1,0 +1,319 @@
+-- Laws of `specs/Bounded`: what a passed or failed test over a list says of its elements, by membership and by place, and back.
+-- Assumes nothing.
+use Prim.Native.Nat.{ℕ, zero, suc, _+_, _<_, _≤_}
+use native.Mathlib.Nat.{not-suc-le-zero, le-of-suc-le-suc, eq-or-lt-of-le}
+use native.Mathlib.Omega.{arith}
+use mathlib.Core.Path.{_≡_, refl, sym, ap, ap₂, _∙_}
+use mathlib.Core.Bool.{Bool, true, false, not, cond, _&&_, _||_, false≢true, true≢false}
+use mathlib.Core.Logic.{_⊎_, inl, inr}
+use mathlib.Core.List.{List, [], _∷_, _++_, map, List·Memᴰ, List·Memᴰ·head, List·Memᴰ·tail, Memᴰ·append-left, Memᴰ·append-right, List·Memᴰ·append-cases, List·Memᴰ·cases-cons, List·Memᴰ·not-nil, List·Memᴰ·eq-of-singleton}
+use mathlib.Core.Option.{Option, none, some}
+use lib.ListN.{length, getD, length-append, List·getD-append}
+use lib.Seq.{getD-at}
+use Rattle.rules.specs.Bounded.{upto, sum, every, any, keep, first, matching}
+
+-- a test's two values, with the equation
+pub test : (t : Bool) → (t ≡ true) ⊎ (t ≡ false)
+test true = inl refl
+test false = inr refl
+
+pub and-left : (a b : Bool) → (a && b) ≡ true → a ≡ true
+and-left true b e = refl
+and-left false b e = e
+
+pub and-right : (a b : Bool) → (a && b) ≡ true → b ≡ true
+and-right true b e = e
+and-right false b e = absurd (false≢true e)
+
+pub and-both : (a b : Bool) → a ≡ true → b ≡ true → (a && b) ≡ true
+and-both true b p q = q
+and-both false b p q = p
+
+pub or-cases : (a b : Bool) → (a || b) ≡ true → (a ≡ true) ⊎ (b ≡ true)
+or-cases true b e = inl refl
+or-cases false b e = inr e
+
+pub or-left : (a b : Bool) → a ≡ true → (a || b) ≡ true
+or-left true b e = refl
+or-left false b e = absurd (false≢true e)
+
+pub or-right : (a b : Bool) → b ≡ true → (a || b) ≡ true
+or-right true b e = refl
+or-right false b e = e
+
+pub or-none : (a b : Bool) → a ≡ false → b ≡ false → (a || b) ≡ false
+or-none true b p q = p
+or-none false b p q = q
+
+module _ {A : Type 0} where
+  -- membership from the element and back, for each of the list tests
+  pub every-mem : (p : A → Bool) (xs : List A) → every p xs ≡ true → {x : A} → List·Memᴰ x xs → p x ≡ true
+  unfolding every
+  every-mem p [] e h = absurd (List·Memᴰ·not-nil h)
+  every-mem p (y ∷ ys) e (List·Memᴰ·head q) = ap p q ∙ and-left (p y) (every p ys) e
+  every-mem p (y ∷ ys) e (List·Memᴰ·tail m) = every-mem p ys (and-right (p y) (every p ys) e) m
+
+  pub every-from : (p : A → Bool) (xs : List A) → ((x : A) → List·Memᴰ x xs → p x ≡ true) → every p xs ≡ true
+  unfolding every
+  every-from p [] h = refl
+  every-from p (y ∷ ys) h =
+      and-both (p y) (every p ys) (h y (List·Memᴰ·head refl)) (every-from p ys (λ x m. h x (List·Memᴰ·tail m)))
+
+  pub any-mem : (p : A → Bool) (xs : List A) → any p xs ≡ true → (x : A) × List·Memᴰ x xs × (p x ≡ true)
+  unfolding any
+  any-mem p [] e = absurd (false≢true e)
+  any-mem p (y ∷ ys) e = go (or-cases (p y) (any p ys) e) (λ r. any-mem p ys r)
+    where
+      go : (p y ≡ true) ⊎ (any p ys ≡ true) → (any p ys ≡ true → (x : A) × List·Memᴰ x ys × (p x ≡ true))
+          → (x : A) × List·Memᴰ x (y ∷ ys) × (p x ≡ true)
+      go (inl q) rest = (y, List·Memᴰ·head refl, q)
+      go (inr r) rest = let (x, m, q) = rest r in (x, List·Memᴰ·tail m, q)
+
+  pub any-from : (p : A → Bool) (xs : List A) {x : A} → List·Memᴰ x xs → p x ≡ true → any p xs ≡ true
+  unfolding any
+  any-from p [] h e = absurd (List·Memᴰ·not-nil h)
+  any-from p (y ∷ ys) (List·Memᴰ·head q) e = or-left (p y) (any p ys) (ap p (sym q) ∙ e)
+  any-from p (y ∷ ys) (List·Memᴰ·tail m) e = or-right (p y) (any p ys) (any-from p ys m e)
+
+  pub any-none : (p : A → Bool) (xs : List A) → ((x : A) → List·Memᴰ x xs → p x ≡ false) → any p xs ≡ false
+  unfolding any
+  any-none p [] h = refl
+  any-none p (y ∷ ys) h =
+      or-none (p y) (any p ys) (h y (List·Memᴰ·head refl)) (any-none p ys (λ x m. h x (List·Memᴰ·tail m)))
+
+  pub keep-hit : (p : A → Bool) (y : A) (ys : List A) → p y ≡ true → keep p (y ∷ ys) ≡ y ∷ keep p ys
+  unfolding keep
+  keep-hit p y ys e = rw e
+
+  pub keep-miss : (p : A → Bool) (y : A) (ys : List A) → p y ≡ false → keep p (y ∷ ys) ≡ keep p ys
+  unfolding keep
+  keep-miss p y ys e = rw e
+
+  pub keep-mem : (p : A → Bool) (xs : List A) {x : A} → List·Memᴰ x (keep p xs) → List·Memᴰ x xs × (p x ≡ true)
+  unfolding keep
+  keep-mem p [] h = absurd (List·Memᴰ·not-nil h)
+  keep-mem p (y ∷ ys) {x} h = go (test (p y)) (λ m. keep-mem p ys m)
+    where
+      hit : p y ≡ true → (List·Memᴰ x (keep p ys) → List·Memᴰ x ys × (p x ≡ true)) → (x ≡ y) ⊎ List·Memᴰ x (keep p ys)
+          → List·Memᴰ x (y ∷ ys) × (p x ≡ true)
+      hit e rest (inl q) = (List·Memᴰ·head q, ap p q ∙ e)
+      hit e rest (inr m) = (List·Memᴰ·tail (rest m .0), rest m .1)
+
+      go : (p y ≡ true) ⊎ (p y ≡ false) → (List·Memᴰ x (keep p ys) → List·Memᴰ x ys × (p x ≡ true)) → List·Memᴰ x (y ∷ ys) × (p x ≡ true)
+      go (inl e) rest = hit e rest (List·Memᴰ·cases-cons (rw (keep-hit p y ys e) at h))
+      go (inr e) rest = let r = rest (rw (keep-miss p y ys e) at h) in (List·Memᴰ·tail (r .0), r .1)
+
+  pub keep-in : (p : A → Bool) (xs : List A) {x : A} → List·Memᴰ x xs → p x ≡ true → List·Memᴰ x (keep p xs)
+  keep-in p [] h e = absurd (List·Memᴰ·not-nil h)
+  keep-in p (y ∷ ys) (List·Memᴰ·head q) e = rw (keep-hit p y ys (ap p (sym q) ∙ e)) (List·Memᴰ·head q)
+  keep-in p (y ∷ ys) {x} (List·Memᴰ·tail m) e = go (test (p y)) (keep-in p ys m e)
+    where
+      go : (p y ≡ true) ⊎ (p y ≡ false) → List·Memᴰ x (keep p ys) → List·Memᴰ x (keep p (y ∷ ys))
+      go (inl t) r = rw (keep-hit p y ys t) (List·Memᴰ·tail r)
+      go (inr t) r = rw (keep-miss p y ys t) r
+
+  pub keep-append : (p : A → Bool) (xs ys : List A) → keep p (xs ++ ys) ≡ keep p xs ++ keep p ys
+  unfolding keep
+  keep-append p [] ys = refl
+  keep-append p (x ∷ xs) ys = go (test (p x)) (keep-append p xs ys)
+    where
+      go : (p x ≡ true) ⊎ (p x ≡ false) → keep p (xs ++ ys) ≡ keep p xs ++ keep p ys → keep p (x ∷ xs ++ ys) ≡ keep p (x ∷ xs) ++ keep p ys
+      go (inl t) r = rw t (ap (λ (l : List A). x ∷ l) r)
+      go (inr t) r = rw t r
+
+  -- two tests that agree on the elements keep the same
+  pub keep-agree : (p q : A → Bool) (xs : List A) → ((x : A) → List·Memᴰ x xs → p x ≡ q x) → keep p xs ≡ keep q xs
+  unfolding keep
+  keep-agree p q [] h = refl
+  keep-agree p q (x ∷ xs) h = rw (h x (List·Memᴰ·head refl), keep-agree p q xs (λ y m. h y (List·Memᴰ·tail m)))
+
+  -- keeping by one test and then by another is keeping by both
+  pub keep-keep : (p q : A → Bool) (xs : List A) → keep q (keep p xs) ≡ keep (λ x. p x && q x) xs
+  unfolding keep
+  keep-keep p q [] = refl
+  keep-keep p q (x ∷ xs) = go (test (p x)) (keep-keep p q xs)
+    where
+      go : (p x ≡ true) ⊎ (p x ≡ false) → keep q (keep p xs) ≡ keep (λ y. p y && q y) xs → keep q (keep p (x ∷ xs)) ≡ keep (λ y. p y && q y) (x ∷ xs)
+      go (inl t) r = rw (t, r)
+      go (inr t) r = rw (t, r)
+
+  pub first-hit : (p : A → Bool) (y : A) (ys : List A) → p y ≡ true → first p (y ∷ ys) ≡ some y
+  unfolding first
+  first-hit p y ys e = rw e
+
+  pub first-miss : (p : A → Bool) (y : A) (ys : List A) → p y ≡ false → first p (y ∷ ys) ≡ first p ys
+  unfolding first
+  first-miss p y ys e = rw e
+
+  pub first-mem : (p : A → Bool) (xs : List A) {x : A} → first p xs ≡ some x → List·Memᴰ x xs × (p x ≡ true)
+  unfolding first
+  first-mem p [] {x} e = absurd (false≢true (cc))
+  first-mem p (y ∷ ys) {x} e = go (test (p y)) (λ r. first-mem p ys r)
+    where
+      go : (p y ≡ true) ⊎ (p y ≡ false) → (first p ys ≡ some x → List·Memᴰ x ys × (p x ≡ true)) → List·Memᴰ x (y ∷ ys) × (p x ≡ true)
+      go (inl t) rest = let q : x ≡ y = cc (first-hit p y ys t) in (List·Memᴰ·head q, ap p q ∙ t)
+      go (inr t) rest = let r = rest (sym (first-miss p y ys t) ∙ e) in (List·Memᴰ·tail (r .0), r .1)
+
+  pub first-none : (p : A → Bool) (xs : List A) → first p xs ≡ none → {x : A} → List·Memᴰ x xs → p x ≡ false
+  first-none p [] e h = absurd (List·Memᴰ·not-nil h)
+  first-none p (y ∷ ys) e {x} h = go (test (p y)) (List·Memᴰ·cases-cons h) (λ r m. first-none p ys r m)
+    where
+      go : (p y ≡ true) ⊎ (p y ≡ false) → (x ≡ y) ⊎ List·Memᴰ x ys → (first p ys ≡ none → List·Memᴰ x ys → p x ≡ false) → p x ≡ false
+      go (inl t) h rest = cc (first-hit p y ys t)
+      go (inr t) (inl q) rest = ap p q ∙ t
+      go (inr t) (inr m) rest = rest (sym (first-miss p y ys t) ∙ e) m
+
+  pub none-first : (p : A → Bool) (xs : List A) → ((x : A) → List·Memᴰ x xs → p x ≡ false) → first p xs ≡ none
+  unfolding first
+  none-first p [] h = refl
+  none-first p (y ∷ ys) h = first-miss p y ys (h y (List·Memᴰ·head refl)) ∙ none-first p ys (λ x m. h x (List·Memᴰ·tail m))
+
+  -- a search over two lists is one over the second where the first has nothing
+  pub first-append-none : (p : A → Bool) (xs ys : List A) → first p xs ≡ none → first p (xs ++ ys) ≡ first p ys
+  first-append-none p [] ys e = refl
+  first-append-none p (x ∷ xs) ys e = go (test (p x)) (λ r. first-append-none p xs ys r)
+    where
+      go : (p x ≡ true) ⊎ (p x ≡ false) → (first p xs ≡ none → first p (xs ++ ys) ≡ first p ys) → first p (x ∷ xs ++ ys) ≡ first p ys
+      go (inl t) rest = cc (first-hit p x xs t)
+      go (inr t) rest = first-miss p x (xs ++ ys) t ∙ rest (sym (first-miss p x xs t) ∙ e)
+
+  pub first-append-some : (p : A → Bool) (xs ys : List A) {x : A} → first p xs ≡ some x → first p (xs ++ ys) ≡ some x
+  unfolding first
+  first-append-some p [] ys {x} e = cc
+  first-append-some p (y ∷ ys) zs {x} e = go (test (p y)) (λ r. first-append-some p ys zs r)
+    where
+      go : (p y ≡ true) ⊎ (p y ≡ false) → (first p ys ≡ some x → first p (ys ++ zs) ≡ some x) → first p (y ∷ ys ++ zs) ≡ some x
+      go (inl t) rest = cc (first-hit p y ys t, first-hit p y (ys ++ zs) t)
+      go (inr t) rest = first-miss p y (ys ++ zs) t ∙ rest (sym (first-miss p y ys t) ∙ e)
+
+pub upto-below : (n : ℕ) {k : ℕ} → List·Memᴰ k (upto n) → k < n
+unfolding upto
+upto-below zero h = absurd (List·Memᴰ·not-nil h)
+upto-below (suc n) {k} h = go (List·Memᴰ·append-cases (upto n) h) (λ m. upto-below n m)
+  where
+    go : List·Memᴰ k (upto n) ⊎ List·Memᴰ k (n ∷ []) → (List·Memᴰ k (upto n) → k < n) → k < suc n
+    go (inl m) rest = let h : k < n = rest m in omega arith
+    go (inr m) rest = let h : k ≡ n = List·Memᴰ·eq-of-singleton m in omega arith
+
+pub below-upto : (n k : ℕ) → k < n → List·Memᴰ k (upto n)
+unfolding upto
+below-upto zero k h = absurd (not-suc-le-zero h)
+below-upto (suc n) k h = go (eq-or-lt-of-le (le-of-suc-le-suc h)) (λ r. below-upto n k r)
+  where
+    go : (k ≡ n) ⊎ (k < n) → (k < n → List·Memᴰ k (upto n)) → List·Memᴰ k (upto n ++ (n ∷ []))
+    go (inl q) rest = Memᴰ·append-right (upto n) (List·Memᴰ·head q)
+    go (inr r) rest = Memᴰ·append-left (n ∷ []) (rest r)
+
+pub length-upto : (n : ℕ) → length (upto n) ≡ n
+unfolding upto
+length-upto zero = refl
+length-upto (suc n) = length-append (upto n) (n ∷ []) ∙ omega (arith, length-upto n)
+
+pub getD-upto : (n k d : ℕ) → k < n → getD (upto n) k d ≡ k
+unfolding upto
+getD-upto zero k d h = absurd (not-suc-le-zero h)
+getD-upto (suc n) k d h = go (eq-or-lt-of-le (le-of-suc-le-suc h)) (λ r. getD-upto n k d r)
+  where
+    go : (k ≡ n) ⊎ (k < n) → (k < n → getD (upto n) k d ≡ k) → getD (upto n ++ (n ∷ [])) k d ≡ k
+    go (inl q) rest = rw q (getD-at (upto n) n [] d n (length-upto n))
+    go (inr r) rest = List·getD-append (upto n) (n ∷ []) d k (rw (length-upto n) r) ∙ rest r
+
+-- The lowest number below n at which a test passes: there is none, or it passes there and at no lower one.
+pub lowest-none : (p : ℕ → Bool) (n : ℕ) → first p (upto n) ≡ none → (k : ℕ) → k < n → p k ≡ false
+lowest-none p n e k h = first-none p (upto n) e (below-upto n k h)
+
+pub none-lowest : (p : ℕ → Bool) (n : ℕ) → ((k : ℕ) → k < n → p k ≡ false) → first p (upto n) ≡ none
+none-lowest p n h = none-first p (upto n) (λ k m. h k (upto-below n m))
+
+pub some-lowest : (p : ℕ → Bool) (n k : ℕ) → k < n → p k ≡ true → ((j : ℕ) → j < k → p j ≡ false) → first p (upto n) ≡ some k
+unfolding upto
+some-lowest p zero k h e low = absurd (not-suc-le-zero h)
+some-lowest p (suc n) k h e low = go (eq-or-lt-of-le (le-of-suc-le-suc h)) (λ r. some-lowest p n k r e low)
+  where
+    go : (k ≡ n) ⊎ (k < n) → (k < n → first p (upto n) ≡ some k) → first p (upto n ++ (n ∷ [])) ≡ some k
+    go (inl q) rest =
+        first-append-none p (upto n) (n ∷ []) (none-lowest p n (λ j r. low j (rw q r)))
+        ∙ first-hit p n [] (ap p (sym q) ∙ e)
+        ∙ ap (λ (x : ℕ). some x) (sym q)
+    go (inr r) rest = first-append-some p (upto n) (n ∷ []) (rest r)
+
+pub lowest-some : (p : ℕ → Bool) (n k : ℕ) → first p (upto n) ≡ some k → (k < n) × (p k ≡ true) × ((j : ℕ) → j < k → p j ≡ false)
+unfolding upto first
+lowest-some p zero k e = absurd (false≢true (cc))
+lowest-some p (suc n) k e = go (first p (upto n)) refl (λ r. lowest-some p n k r)
+  where
+    last : first p (upto n) ≡ none → (p n ≡ true) ⊎ (p n ≡ false) → (k < suc n) × (p k ≡ true) × ((j : ℕ) → j < k → p j ≡ false)
+    last q (inl t) =
+        let same : k ≡ n = cc (first-append-none p (upto n) (n ∷ []) q, first-hit p n [] t) in
+        (omega arith, ap p same ∙ t, λ j h. lowest-none p n q j (rw same at h))
+    last q (inr t) = absurd (false≢true (cc (first-append-none p (upto n) (n ∷ []) q, first-miss p n [] t)))
+
+    go : (r : Option ℕ) → first p (upto n) ≡ r → (first p (upto n) ≡ some k → (k < n) × (p k ≡ true) × ((j : ℕ) → j < k → p j ≡ false))
+        → (k < suc n) × (p k ≡ true) × ((j : ℕ) → j < k → p j ≡ false)
+    go none q rest = last q (test (p n))
+    go (some j) q rest =
+        let same : j ≡ k = cc (first-append-some p (upto n) (n ∷ []) q) in
+        let (h, t, low) = rest (q ∙ ap (λ (x : ℕ). some x) same) in
+        (omega (arith, h), t, low)
+
+-- `matching` says that two lists are equally long and the test passes at each place.
+module _ {A B : Type 0} where
+  pub matching-length : (p : A → B → Bool) (xs : List A) (ys : List B) → matching p xs ys ≡ true → length xs ≡ length ys
+  unfolding matching
+  matching-length p [] [] e = refl
+  matching-length p [] (y ∷ ys) e = absurd (false≢true e)
+  matching-length p (x ∷ xs) [] e = absurd (false≢true e)
+  matching-length p (x ∷ xs) (y ∷ ys) e = ap suc (matching-length p xs ys (and-right (p x y) (matching p xs ys) e))
+
+  pub matching-at : (p : A → B → Bool) (xs : List A) (ys : List B) (d : A) (d′ : B) → matching p xs ys ≡ true → (i : ℕ) → i < length xs
+      → p (getD xs i d) (getD ys i d′) ≡ true
+  unfolding matching
+  matching-at p [] ys d d′ e i h = absurd (not-suc-le-zero h)
+  matching-at p (x ∷ xs) [] d d′ e i h = absurd (false≢true e)
+  matching-at p (x ∷ xs) (y ∷ ys) d d′ e zero h = and-left (p x y) (matching p xs ys) e
+  matching-at p (x ∷ xs) (y ∷ ys) d d′ e (suc i) h =
+      matching-at p xs ys d d′ (and-right (p x y) (matching p xs ys) e) i (le-of-suc-le-suc h)
+
+  pub matching-from : (p : A → B → Bool) (xs : List A) (ys : List B) (d : A) (d′ : B) → length xs ≡ length ys
+      → ((i : ℕ) → i < length xs → p (getD xs i d) (getD ys i d′) ≡ true) → matching p xs ys ≡ true
+  unfolding matching
+  matching-from p [] [] d d′ e h = refl
+  matching-from p [] (y ∷ ys) d d′ e h = let z : _≡_ {A = ℕ} 0 (suc (length ys)) = e in absurd (omega arith)
+  matching-from p (x ∷ xs) [] d d′ e h = let z : _≡_ {A = ℕ} (suc (length xs)) 0 = e in absurd (omega arith)
+  matching-from p (x ∷ xs) (y ∷ ys) d d′ e h =
+      and-both (p x y) (matching p xs ys) (h 0 (omega arith))
+      (matching-from p xs ys d d′ (omega (arith, e)) (λ i r. h (suc i) (omega (arith, r))))
+
+-- A relation that is reflexive or transitive where it has to be is so place by place.
+module _ {A : Type 0} where
+  pub matching-refl : (p : A → A → Bool) (xs : List A) → ((x : A) → List·Memᴰ x xs → p x x ≡ true) → matching p xs xs ≡ true
+  unfolding matching
+  matching-refl p [] h = refl
+  matching-refl p (x ∷ xs) h =
+      and-both (p x x) (matching p xs xs) (h x (List·Memᴰ·head refl)) (matching-refl p xs (λ y m. h y (List·Memᴰ·tail m)))
+
+  pub matching-trans : {B C : Type 0} (p : A → B → Bool) (q : B → C → Bool) (r : A → C → Bool)
+      → ((a : A) (b : B) (c : C) → p a b ≡ true → q b c ≡ true → r a c ≡ true)
+      → (xs : List A) (ys : List B) (zs : List C) → matching p xs ys ≡ true → matching q ys zs ≡ true → matching r xs zs ≡ true
+  unfolding matching
+  matching-trans p q r h [] [] [] e f = refl
+  matching-trans p q r h [] [] (z ∷ zs) e f = f
+  matching-trans p q r h [] (y ∷ ys) zs e f = absurd (false≢true e)
+  matching-trans p q r h (x ∷ xs) [] zs e f = absurd (false≢true e)
+  matching-trans p q r h (x ∷ xs) (y ∷ ys) [] e f = absurd (false≢true f)
+  matching-trans p q r h (x ∷ xs) (y ∷ ys) (z ∷ zs) e f =
+      and-both (r x z) (matching r xs zs)
+      (h x y z (and-left (p x y) (matching p xs ys) e) (and-left (q y z) (matching q ys zs) f))
+      (matching-trans p q r h xs ys zs (and-right (p x y) (matching p xs ys) e) (and-right (q y z) (matching q ys zs) f))
+
+  -- a relation that is antisymmetric on the elements of the first list
+  pub matching-antisym : (p : A → A → Bool) (xs ys : List A) → ((x y : A) → List·Memᴰ x xs → List·Memᴰ y ys → p x y ≡ true → p y x ≡ true → x ≡ y)
+      → matching p xs ys ≡ true → matching p ys xs ≡ true → xs ≡ ys
+  unfolding matching
+  matching-antisym p [] [] h e f = refl
+  matching-antisym p [] (y ∷ ys) h e f = absurd (false≢true e)
+  matching-antisym p (x ∷ xs) [] h e f = absurd (false≢true e)
+  matching-antisym p (x ∷ xs) (y ∷ ys) h e f =
+      ap₂ (λ (z : A) (zs : List A). z ∷ zs)
+      (h x y (List·Memᴰ·head refl) (List·Memᴰ·head refl) (and-left (p x y) (matching p xs ys) e) (and-left (p y x) (matching p ys xs) f))
+      (matching-antisym p xs ys (λ a b m n. h a b (List·Memᴰ·tail m) (List·Memᴰ·tail n)) (and-right (p x y) (matching p xs ys) e) (and-right (p y x) (matching p ys xs) f))
