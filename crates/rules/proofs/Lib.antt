@@ -1,3 +1,6 @@
 pub mod Lists
+pub mod Order
 pub mod Opening
+pub mod Subclass
+pub mod Lookup
 pub mod Cases
