@@ -5,4 +5,6 @@ pub mod Places
 pub mod Wellformed
 pub mod Subclass
 pub mod Lookup
+pub mod Coverage
+pub mod Types
 pub mod Cases

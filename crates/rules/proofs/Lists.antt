@@ -6,9 +6,9 @@ use native.Mathlib.Omega.{arith}
 use mathlib.Core.Path.{_≡_, refl, sym, ap, ap₂, _∙_}
 use mathlib.Core.Bool.{Bool, true, false, not, cond, _&&_, _||_, false≢true, and-true, and-assoc}
 use mathlib.Core.Logic.{_⊎_, inl, inr}
-use mathlib.Core.List.{List, [], _∷_, _++_, map, List·Memᴰ, List·Memᴰ·head, List·Memᴰ·tail, Memᴰ·append-left, Memᴰ·append-right, List·Memᴰ·append-cases, List·Memᴰ·cases-cons, List·Memᴰ·not-nil, List·Memᴰ·eq-of-singleton}
+use mathlib.Core.List.{List, [], _∷_, _++_, map, reverse, reverseAux, List·Memᴰ, List·Memᴰ·head, List·Memᴰ·tail, Memᴰ·append-left, Memᴰ·append-right, List·Memᴰ·append-cases, List·Memᴰ·cases-cons, List·Memᴰ·not-nil, List·Memᴰ·eq-of-singleton}
 use mathlib.Core.Option.{Option, none, some}
-use lib.ListN.{length, getD, take, length-append, List·getD-append}
+use lib.ListN.{length, getD, take, drop, length-append, List·getD-append}
 use lib.Seq.{getD-at}
 use Rattle.rules.specs.Bounded.{upto, sum, every, any, keep, first, matching}
 
@@ -58,6 +58,11 @@ module _ {A : Type 0} where
   every-from p [] h = refl
   every-from p (y ∷ ys) h =
       and-both (p y) (every p ys) (h y (List·Memᴰ·head refl)) (every-from p ys (λ x m. h x (List·Memᴰ·tail m)))
+
+  pub getD-mem : (xs : List A) (i : ℕ) (d : A) → i < length xs → List·Memᴰ (getD xs i d) xs
+  getD-mem [] i d h = absurd (not-suc-le-zero h)
+  getD-mem (x ∷ xs) zero d h = List·Memᴰ·head refl
+  getD-mem (x ∷ xs) (suc i) d h = List·Memᴰ·tail (getD-mem xs i d (le-of-suc-le-suc h))
 
   pub any-mem : (p : A → Bool) (xs : List A) → any p xs ≡ true → (x : A) × List·Memᴰ x xs × (p x ≡ true)
   unfolding any
@@ -310,6 +315,39 @@ module _ {A B : Type 0} where
   matching-from p (x ∷ xs) (y ∷ ys) d d′ e h =
       and-both (p x y) (matching p xs ys) (h 0 (omega arith))
       (matching-from p xs ys d d′ (omega (arith, e)) (λ i r. h (suc i) (omega (arith, r))))
+
+  -- `matching` goes with taking, dropping and reversing both lists
+  pub matching-take : (p : A → B → Bool) (n : ℕ) (xs : List A) (ys : List B) → matching p xs ys ≡ true → matching p (take n xs) (take n ys) ≡ true
+  unfolding matching
+  matching-take p zero xs ys e = refl
+  matching-take p (suc n) [] [] e = refl
+  matching-take p (suc n) [] (y ∷ ys) e = absurd (false≢true e)
+  matching-take p (suc n) (x ∷ xs) [] e = absurd (false≢true e)
+  matching-take p (suc n) (x ∷ xs) (y ∷ ys) e =
+      and-both (p x y) (matching p (take n xs) (take n ys)) (and-left (p x y) (matching p xs ys) e)
+      (matching-take p n xs ys (and-right (p x y) (matching p xs ys) e))
+
+  pub matching-drop : (p : A → B → Bool) (n : ℕ) (xs : List A) (ys : List B) → matching p xs ys ≡ true → matching p (drop n xs) (drop n ys) ≡ true
+  unfolding matching
+  matching-drop p zero xs ys e = e
+  matching-drop p (suc n) [] [] e = refl
+  matching-drop p (suc n) [] (y ∷ ys) e = absurd (false≢true e)
+  matching-drop p (suc n) (x ∷ xs) [] e = absurd (false≢true e)
+  matching-drop p (suc n) (x ∷ xs) (y ∷ ys) e = matching-drop p n xs ys (and-right (p x y) (matching p xs ys) e)
+
+  matching-onto : (p : A → B → Bool) (xs us : List A) (ys vs : List B) → matching p xs ys ≡ true → matching p us vs ≡ true
+      → matching p (reverseAux xs us) (reverseAux ys vs) ≡ true
+  unfolding matching
+  matching-onto p [] us [] vs e f = f
+  matching-onto p [] us (y ∷ ys) vs e f = absurd (false≢true e)
+  matching-onto p (x ∷ xs) us [] vs e f = absurd (false≢true e)
+  matching-onto p (x ∷ xs) us (y ∷ ys) vs e f =
+      matching-onto p xs (x ∷ us) ys (y ∷ vs) (and-right (p x y) (matching p xs ys) e)
+      (and-both (p x y) (matching p us vs) (and-left (p x y) (matching p xs ys) e) f)
+
+  pub matching-reverse : (p : A → B → Bool) (xs : List A) (ys : List B) → matching p xs ys ≡ true → matching p (reverse xs) (reverse ys) ≡ true
+  unfolding matching
+  matching-reverse p xs ys e = matching-onto p xs [] ys [] e refl
 
   -- one more element in front of which all match: it is compared with the next element of the other list
   pub matching-snoc : (p : A → B → Bool) (xs : List A) (a : A) (ys : List B) (d : B) → length xs < length ys
