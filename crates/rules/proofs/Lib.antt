@@ -7,4 +7,5 @@ pub mod Subclass
 pub mod Lookup
 pub mod Coverage
 pub mod Types
+pub mod Sound
 pub mod Cases

@@ -18,7 +18,7 @@ use Rattle.rules.specs.Bounded.{upto, every, keep, first, matching}
 use Rattle.rules.specs.Model.{Model, Wellformed, present}
 use Rattle.rules.specs.Subclass.{subclass, under}
 use Rattle.rules.specs.Lookup.{Found, found, missing, ambiguous, applies, applicable, applicableSoFar, asSpecific, leads, unbeaten, rivals, leaderOr, select, lookup}
-use Rattle.rules.proofs.Lists.{test, and-left, and-right, and-both, or-cases, or-left, or-right, every-mem, every-from, keep-mem, keep-in, keep-agree, keep-keep, matching-snoc, first-mem, first-none, upto-below, below-upto, Rising, rising-upto, rising-keep}
+use Rattle.rules.proofs.Lists.{test, and-left, and-right, and-both, or-cases, or-left, or-right, every-mem, every-from, keep-mem, keep-in, keep-agree, keep-keep, matching-length, matching-snoc, first-mem, first-none, upto-below, below-upto, Rising, rising-upto, rising-keep}
 use Rattle.rules.proofs.Order.{Minimal, minimal}
 use Rattle.rules.proofs.Subclass.{under-itself, under-trans, under-antisym}
 
@@ -265,6 +265,14 @@ module _ (M : Model) (w : Wellformed M) (f : ℕ) (args : List ℕ) where
               let s = one a p (ℕ-discrete m a) in
               let t = one b q (ℕ-discrete m b) in
               omega (arith, s, t)
+
+-- what a method applies to has as many classes as its function has places
+pub candidate-places : (M : Model) → Wellformed M → (f : ℕ) (args : List ℕ) (m : ℕ) → Candidate M f args m → length args ≡ M .arity f
+unfolding applies under
+candidate-places M w f args m c =
+    matching-length (subclass M) args (M .specialisers m) (c .applying)
+    ∙ w .specialiser-places m (c .bound)
+    ∙ ap (M .arity) (c .ofFunction)
 
 -- Narrowing. With no place filled all methods of the function are left; each place filled keeps those whose specialiser there is above the class; with
 -- all places filled the applicable methods are left.
