@@ -7,5 +7,6 @@ pub mod Subclass
 pub mod Lookup
 pub mod Coverage
 pub mod Types
+pub mod Machine
 pub mod Sound
 pub mod Cases

@@ -105,9 +105,10 @@ module _ (M : Model) (w : Wellformed M) where
   unfolding licenses covers under
   licence-covers f vs ts e s l =
       record {
-      present = l .present;
-      ofFunction = l .ofFunction;
-      covered = matching-trans (conforms M) (inType M) (subclass M) vs ts (M .sigArgs s) (λ v t b m. conforms-in v t b) e (l .licensed) }
+        present = l .present;
+        ofFunction = l .ofFunction;
+        covered = matching-trans (conforms M) (inType M) (subclass M) vs ts (M .sigArgs s) (λ v t b m. conforms-in v t b) e (l .licensed);
+      }
 
   -- an argument conforms to the type of its ARG
   argument-conforms : (m : ℕ) (args : List ℕ) (i : ℕ) → every (concreteClass M) args ≡ true → applies M args m ≡ true → declaredHold M m args ≡ true
@@ -163,10 +164,12 @@ module _ (M : Model) (w : Wellformed M) (ok : Acceptable M) where
       go (u ∷ []) c e =
           let one = and-left (conforms M v u) true c in
           let concrete = conforms-concrete M v u one in
-          let result = conforms-in M w v u (M .result m) one (typed-result (inType M u (M .result m)) at e) in
-          (concrete, λ s k.
-            subclass-trans M w v (M .result m) (M .sigResult s) (concrete-present M v concrete) result
-              (judged-by (M .function m) args m s (t .concrete) (t .byLookup) k .1 .resultUnder))
+          let result = conforms-in M w v u (M .result m) one (typed-result (inType M u (M .result m)) at e) in (
+            concrete,
+            λ s k.
+                subclass-trans M w v (M .result m) (M .sigResult s) (concrete-present M v concrete) result
+                (judged-by (M .function m) args m s (t .concrete) (t .byLookup) k .1 .resultUnder),
+          )
       go (u ∷ x ∷ rest) c e = absurd (false≢true (and-right (conforms M v u) false c))
 
   module _ (f₀ : ℕ) (args₀ : List ℕ) where
@@ -220,28 +223,31 @@ module _ (M : Model) (w : Wellformed M) (ok : Acceptable M) where
         let d = judge-holds M s args m j in
         let l : lookup M f args ≡ found m = rw (v .ofFunction) at (d .byLookup) in
         let t = target-enters M f args m l (d .declaredHolds) in
-        let n = lookup-leader M f args m l .candidate in
-        (record {
-        signature = s;
-        covering = v;
-        concrete = c;
-        method = m;
-        byLookup = l;
-        byRun = t;
-        byCheck = λ r k. judged-by f args m r c l k .0;
-        declaredHolds = d .declaredHolds },
-        rw t
-        (enter-sound m args callers
-        (record {
-        bound = n .bound;
-        byLookup = rw (n .ofFunction) l;
-        concrete = c;
-        declaredHolds = d .declaredHolds;
-        types = [];
-        conforming = refl;
-        typing = ok .bodies m (n .bound);
-        operands = w .body-operands m (n .bound) })
-        (rw (n .ofFunction) b)))
+        let n = lookup-leader M f args m l .candidate in (
+          record {
+            signature = s;
+            covering = v;
+            concrete = c;
+            method = m;
+            byLookup = l;
+            byRun = t;
+            byCheck = λ r k. judged-by f args m r c l k .0;
+            declaredHolds = d .declaredHolds;
+          },
+          rw t
+              (enter-sound m args callers
+              (record {
+                bound = n .bound;
+                byLookup = rw (n .ofFunction) l;
+                concrete = c;
+                declaredHolds = d .declaredHolds;
+                types = [];
+                conforming = refl;
+                typing = ok .bodies m (n .bound);
+                operands = w .body-operands m (n .bound);
+              })
+              (rw (n .ofFunction) b)),
+        )
 
     -- an instruction of a well-typed frame: the sends that it meets are sound, and so is what it comes to
     abbrev pub SoundStep : Instr → Frame → List Frame → Type 0
@@ -255,26 +261,28 @@ module _ (M : Model) (w : Wellformed M) (ok : Acceptable M) where
     pushed i g callers v t (a, b) c e =
         land-sound (after g (v ∷ g .stack)) callers
         (record {
-        bound = a .bound;
-        byLookup = a .byLookup;
-        concrete = a .concrete;
-        declaredHolds = a .declaredHolds;
-        types = t ∷ a .types;
-        conforming = and-both (conforms M v t) (matching (conforms M) (g .stack) (a .types)) c (a .conforming);
-        typing = e;
-        operands = and-right (operandRule M (M .arity (M .function (g .method))) i) _ (a .operands) })
+          bound = a .bound;
+          byLookup = a .byLookup;
+          concrete = a .concrete;
+          declaredHolds = a .declaredHolds;
+          types = t ∷ a .types;
+          conforming = and-both (conforms M v t) (matching (conforms M) (g .stack) (a .types)) c (a .conforming);
+          typing = e;
+          operands = and-right (operandRule M (M .arity (M .function (g .method))) i) _ (a .operands);
+        })
         b
 
     arg-sound : (k : ℕ) (g : Frame) (callers : List Frame) → SoundLanding M f₀ args₀ (goes (arg k) g callers) → SoundStep (arg k) g callers
     unfolding sent turn typeFrom afterEffect effect every operandRule
     arg-sound k g callers (a, b) =
         let candidate = lookup-leader M (M .function (g .method)) (g .args) (g .method) (a .byLookup) .candidate in
-        let inside : k < M .arity (M .function (g .method)) = ltb-true k (M .arity (M .function (g .method))) (and-left (ltb k (M .arity (M .function (g .method)))) _ (a .operands)) in
-        (λ x m. absurd (List·Memᴰ·not-nil m),
-        pushed (arg k) g callers (getD (g .args) k 0) (argType M (g .method) k) (a, b)
-        (argument-conforms M w (g .method) (g .args) k (a .concrete) (candidate .applying) (a .declaredHolds)
-        (rw (candidate-places M w (M .function (g .method)) (g .args) (g .method) candidate) inside))
-        (a .typing))
+        let inside : k < M .arity (M .function (g .method)) = ltb-true k (M .arity (M .function (g .method))) (and-left (ltb k (M .arity (M .function (g .method)))) _ (a .operands)) in (
+          λ x m. absurd (List·Memᴰ·not-nil m),
+          pushed (arg k) g callers (getD (g .args) k 0) (argType M (g .method) k) (a, b)
+              (argument-conforms M w (g .method) (g .args) k (a .concrete) (candidate .applying) (a .declaredHolds)
+              (rw (candidate-places M w (M .function (g .method)) (g .args) (g .method) candidate) inside))
+              (a .typing),
+        )
 
     -- the arguments of a send conform to the types at their places
     arguments-conform : (n : ℕ) (stack : List ℕ) (types : List Static) → matching (conforms M) stack types ≡ true
@@ -292,32 +300,34 @@ module _ (M : Model) (w : Wellformed M) (ok : Acceptable M) where
         let t = sendType M f (arguments n (a .types)) in
         let values = arguments-conform n (g .stack) (a .types) (a .conforming) in
         record {
-        bound = a .bound;
-        byLookup = a .byLookup;
-        concrete = a .concrete;
-        declaredHolds = a .declaredHolds;
-        types = t ∷ drop n (a .types);
-        conforming =
-          and-both (conforms M v t) (matching (conforms M) (drop n (g .stack)) (drop n (a .types)))
-            (conforms-from M v t (r .0)
-            (λ c m. let (s, l, q) = result-licence M f (arguments n (a .types)) m in
-            rw (← q) (r .1 s (licence-covers M w f (arguments n (g .stack)) (arguments n (a .types)) values s l))))
-            (matching-drop (conforms M) n (g .stack) (a .types) (a .conforming));
-        typing = e;
-        operands = and-right (operandRule M (M .arity (M .function (g .method))) (send f)) (every (operandRule M (M .arity (M .function (g .method)))) (g .rest)) (a .operands) }
+          bound = a .bound;
+          byLookup = a .byLookup;
+          concrete = a .concrete;
+          declaredHolds = a .declaredHolds;
+          types = t ∷ drop n (a .types);
+          conforming =
+              and-both (conforms M v t) (matching (conforms M) (drop n (g .stack)) (drop n (a .types)))
+              (conforms-from M v t (r .0)
+              (λ c m. let (s, l, q) = result-licence M f (arguments n (a .types)) m in
+              rw (← q) (r .1 s (licence-covers M w f (arguments n (g .stack)) (arguments n (a .types)) values s l))))
+              (matching-drop (conforms M) n (g .stack) (a .types) (a .conforming));
+          typing = e;
+          operands = and-right (operandRule M (M .arity (M .function (g .method))) (send f)) (every (operandRule M (M .arity (M .function (g .method)))) (g .rest)) (a .operands);
+        }
 
     new-sound : (c : ℕ) (g : Frame) (callers : List Frame) → SoundLanding M f₀ args₀ (goes (new c) g callers) → SoundStep (new c) g callers
     unfolding sent turn typeFrom effect every operandRule concreteClass
     new-sound c g callers (a, b) =
         let (next, q, e) = typed-step (effect M (g .method) (a .types) (new c)) (g .at) (λ next. typeFrom M (g .method) (suc (g .at)) next (g .rest)) (a .typing) in
         let (concrete, same) = typed-new (M .concrete c) ((c ∷ []) ∷ a .types) next q in
-        let inside = and-left (ltb c (M .classes)) (every (operandRule M (M .arity (M .function (g .method)))) (g .rest)) (a .operands) in
-        (λ x m. absurd (List·Memᴰ·not-nil m),
-        rw concrete
-        (pushed (new c) g callers c (c ∷ []) (a, b)
-        (conforms-from M c (c ∷ []) (and-both (ltb c (M .classes)) (M .concrete c) inside concrete)
-        (λ h m. rw (List·Memᴰ·eq-of-singleton m) (subclass-itself M c)))
-        (rw same at e)))
+        let inside = and-left (ltb c (M .classes)) (every (operandRule M (M .arity (M .function (g .method)))) (g .rest)) (a .operands) in (
+          λ x m. absurd (List·Memᴰ·not-nil m),
+          rw concrete
+              (pushed (new c) g callers c (c ∷ []) (a, b)
+              (conforms-from M c (c ∷ []) (and-both (ltb c (M .classes)) (M .concrete c) inside concrete)
+              (λ h m. rw (List·Memᴰ·eq-of-singleton m) (subclass-itself M c)))
+              (rw same at e)),
+        )
 
     send-sound : (f : ℕ) (g : Frame) (callers : List Frame) → SoundLanding M f₀ args₀ (goes (send f) g callers) → SoundStep (send f) g callers
     unfolding sent turn typeFrom effect every after
@@ -330,10 +340,10 @@ module _ (M : Model) (w : Wellformed M) (ok : Acceptable M) where
         let (s, l, p) = result-licence M f (arguments n (a .types)) m in
         let values = arguments-conform n (g .stack) (a .types) (a .conforming) in
         let (x, t) =
-          call-sound f (arguments n (g .stack)) (after g (drop n (g .stack)) ∷ callers) s
-            (licence-covers M w f (arguments n (g .stack)) (arguments n (a .types)) values s l)
-            (all-concrete M (arguments n (g .stack)) (arguments n (a .types)) values)
-            (waiting f g a (rw same at e), b) in
+        call-sound f (arguments n (g .stack)) (after g (drop n (g .stack)) ∷ callers) s
+        (licence-covers M w f (arguments n (g .stack)) (arguments n (a .types)) values s l)
+        (all-concrete M (arguments n (g .stack)) (arguments n (a .types)) values)
+        (waiting f g a (rw same at e), b) in
         let long : leb n (length (g .stack)) ≡ true = rw (matching-length (conforms M) (g .stack) (a .types) (a .conforming)) enough in
         rw long (λ y k. rw (List·Memᴰ·eq-of-singleton k) x, t)
 
@@ -376,9 +386,9 @@ module _ (M : Model) (w : Wellformed M) (ok : Acceptable M) where
   run-sound f args s v c count =
       let (x, t) = call-sound f args f args [] s v c (refl, refl) in
       let (p, q) =
-        meets-sound f args (meeting M f args ∷ []) (afterTurn (call M f args []) 0 (λ l. runFrom M count 0 l))
-          (λ y m. rw (List·Memᴰ·eq-of-singleton m) x)
-          (after-turn-sound f args (call M f args []) 0 (λ l. runFrom M count 0 l) t (λ l k. rest-sound f args count 0 l k)) in
+      meets-sound f args (meeting M f args ∷ []) (afterTurn (call M f args []) 0 (λ l. runFrom M count 0 l))
+      (λ y m. rw (List·Memᴰ·eq-of-singleton m) x)
+      (after-turn-sound f args (call M f args []) 0 (λ l. runFrom M count 0 l) t (λ l k. rest-sound f args count 0 l k)) in
       record { sends = p; ending = q }
 
 -- "one theorem about the whole run"

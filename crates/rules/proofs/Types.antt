@@ -24,9 +24,10 @@ unfolding licensing
 licensing-licence M f types {s} h =
     let (m, e) = keep-mem (λ s. eqb (M .sigFunction s) f && licenses M types s) (upto (M .signatures)) h in
     record {
-    present = upto-below (M .signatures) m;
-    ofFunction = eqb-true (M .sigFunction s) f (and-left (eqb (M .sigFunction s) f) (licenses M types s) e);
-    licensed = and-right (eqb (M .sigFunction s) f) (licenses M types s) e }
+      present = upto-below (M .signatures) m;
+      ofFunction = eqb-true (M .sigFunction s) f (and-left (eqb (M .sigFunction s) f) (licenses M types s) e);
+      licensed = and-right (eqb (M .sigFunction s) f) (licenses M types s) e;
+    }
 
 pub licence-licensing : (M : Model) (f : ℕ) (types : List Static) {s : ℕ} → Licence M f types s → List·Memᴰ s (licensing M f types)
 unfolding licensing
@@ -50,11 +51,12 @@ licence-result M f types l = Memᴰ·map (M .sigResult) (licence-licensing M f t
 pub send-type-union : (M : Model) (f : ℕ) (types : List Static) (b : ℕ)
     → (inType M (sendType M f types) b ≡ true) ↔ ((s : ℕ) × Licence M f types s × (subclass M (M .sigResult s) b ≡ true))
 unfolding inType
-send-type-union M f types b =
-    (λ e. let (c, m, u) = any-mem (λ g. subclass M g b) (sendType M f types) e in
-    let (s, l, q) = result-licence M f types m in
-    (s, l, rw q u),
-    λ r. any-from (λ g. subclass M g b) (sendType M f types) (licence-result M f types (r .1)) (r .2))
+send-type-union M f types b = (
+  λ e. let (c, m, u) = any-mem (λ g. subclass M g b) (sendType M f types) e in
+      let (s, l, q) = result-licence M f types m in
+      (s, l, rw q u),
+  λ r. any-from (λ g. subclass M g b) (sendType M f types) (licence-result M f types (r .1)) (r .2),
+)
 
 -- one type is below another when it has all the other's classes: a value of the one is a value of the other
 pub record Below (M : Model) (t u : Static) : Type 0 where
@@ -65,8 +67,9 @@ pub send-type-lower : (M : Model) (f : ℕ) (types : List Static) (s : ℕ) → 
 unfolding inType any
 send-type-lower M f types s l =
     record {
-    has = λ b e.
-      send-type-union M f types b .1 (s, l, one (subclass M (M .sigResult s) b) e) }
+      has = λ b e.
+          send-type-union M f types b .1 (s, l, one (subclass M (M .sigResult s) b) e);
+    }
   where
     one : (t : Bool) → (t || false) ≡ true → t ≡ true
     one true e = refl
@@ -77,6 +80,7 @@ pub send-type-greatest : (M : Model) (f : ℕ) (types : List Static) (t : Static
 unfolding inType
 send-type-greatest M f types t h =
     record {
-    has = λ b e.
-      let (s, l, u) = send-type-union M f types b .0 e in
-      h s l .has b (any-from (λ g. subclass M g b) (M .sigResult s ∷ []) (List·Memᴰ·head refl) u) }
+      has = λ b e.
+          let (s, l, u) = send-type-union M f types b .0 e in
+          h s l .has b (any-from (λ g. subclass M g b) (M .sigResult s ∷ []) (List·Memᴰ·head refl) u);
+    }
