@@ -17,6 +17,12 @@ pub test : (t : Bool) → (t ≡ true) ⊎ (t ≡ false)
 test true = inl refl
 test false = inr refl
 
+-- two tests that pass together are equal
+pub agree : (a b : Bool) → (a ≡ true → b ≡ true) → (b ≡ true → a ≡ true) → a ≡ b
+agree true b h k = sym (h refl)
+agree false true h k = k refl
+agree false false h k = refl
+
 pub and-left : (a b : Bool) → (a && b) ≡ true → a ≡ true
 and-left true b e = refl
 and-left false b e = e

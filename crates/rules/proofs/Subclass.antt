@@ -1,7 +1,7 @@
 -- Subclassing: the test agrees with the paper's relation on the classes of the bundle, and is a partial order there with class 0 at the top.
 -- Assumes nothing.
 use Prim.Native.Nat.{ℕ, zero, suc, _≤_, _<_}
-use native.Mathlib.Nat.{not-suc-le-zero, eq-zero-or-pos}
+use native.Mathlib.Nat.{not-suc-le-zero, eq-zero-or-pos, lt-trans}
 use native.Mathlib.Omega.{arith}
 use mathlib.Core.Path.{_≡_, refl, sym, ap, _∙_}
 use mathlib.Core.Bool.{Bool, true, false, _||_, false≢true}
@@ -13,7 +13,7 @@ use borrow.Author.Tests.{eqb-true, eq-eqb, ltb-true, lt-ltb}
 use Rattle.rules.specs.Bounded.{any, every, matching}
 use Rattle.rules.specs.Model.{Model, Wellformed, present}
 use Rattle.rules.specs.Subclass.{Under, itself, parent, subclassWithin, subclass, under}
-use Rattle.rules.proofs.Lists.{or-cases, or-left, or-right, any-mem, any-from, every-mem, matching-refl, matching-trans, matching-antisym}
+use Rattle.rules.proofs.Lists.{agree, or-cases, or-left, or-right, any-mem, any-from, every-mem, matching-refl, matching-trans, matching-antisym}
 
 -- composed paths
 pub under-compose : {M : Model} {a b c : ℕ} → Under M a b → Under M b c → Under M a c
@@ -115,3 +115,25 @@ module _ (M : Model) (w : Wellformed M) where
 
   pub subclass-root : (a : ℕ) → a < M .classes → subclass M a 0 ≡ true
   subclass-root a h = under-subclass a 0 h (root-within a a h (omega arith))
+
+  under-step : {a b : ℕ} → a < M .classes → Under M a b → (eqb a b || any (λ p. subclass M p b) (M .parents a)) ≡ true
+  under-step {a} h itself = or-left (eqb a a) (any (λ p. subclass M p a) (M .parents a)) (eq-eqb a a refl)
+  under-step {a} {b} h (parent {p = p} m u) =
+      or-right (eqb a b) (any (λ p. subclass M p b) (M .parents a))
+      (any-from (λ p. subclass M p b) (M .parents a) m (under-subclass p b (lt-trans (parent-lower h m) h) u))
+
+  -- a class is under another when it is that class or one of its parents is: how a row follows from the parents' rows
+  pub subclass-parents : (a b : ℕ) → a < M .classes → subclass M a b ≡ (eqb a b || any (λ p. subclass M p b) (M .parents a))
+  subclass-parents a b h = agree (subclass M a b) (eqb a b || any (λ p. subclass M p b) (M .parents a)) down up
+    where
+      down : subclass M a b ≡ true → (eqb a b || any (λ p. subclass M p b) (M .parents a)) ≡ true
+      down e = under-step h (subclass-under M a b e)
+
+      back : (eqb a b ≡ true) ⊎ (any (λ p. subclass M p b) (M .parents a) ≡ true) → subclass M a b ≡ true
+      back (inl q) = rw (eqb-true a b q) (subclass-itself M b)
+      back (inr q) =
+          let (p, m, u) = any-mem (λ p. subclass M p b) (M .parents a) q in
+          under-subclass a b h (parent m (subclass-under M p b u))
+
+      up : (eqb a b || any (λ p. subclass M p b) (M .parents a)) ≡ true → subclass M a b ≡ true
+      up e = back (or-cases (eqb a b) (any (λ p. subclass M p b) (M .parents a)) e)
