@@ -9,4 +9,5 @@ pub mod Coverage
 pub mod Types
 pub mod Machine
 pub mod Sound
+pub mod Overwrite
 pub mod Cases

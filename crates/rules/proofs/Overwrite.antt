@@ -1,0 +1,51 @@
+-- Bytes written one after the other from the first on: what they hold, and that the later ones stay.
+-- Assumes nothing.
+use Prim.Native.Nat.{ℕ, zero, suc, _+_, _-_, _≤_, _<_}
+use native.Mathlib.Omega.{arith}
+use native.Mathlib.Numerals.{add-one}
+use mathlib.Core.Path.{_≡_, refl, sym, ap, _∙_}
+use mathlib.Core.List.{List, [], _∷_, _++_, map, append-assoc}
+use lib.ListN.{length, getD, take, drop, set, length-append, length-drop, length-map, List·getD-map, List·getD-append}
+use lib.Seq.{drop-cons, set-at, getD-append-add, getD-drop, append-snoc}
+use Rattle.rules.specs.Bounded.{upto}
+use Rattle.rules.specs.Calls.{overwrite}
+use Rattle.rules.proofs.Lists.{length-upto, getD-upto}
+
+map-upto : (f : ℕ → ℕ) (n : ℕ) → length (map f (upto n)) ≡ n
+map-upto f n = length-map (upto n) f ∙ length-upto n
+
+map-snoc : (f : ℕ → ℕ) (xs : List ℕ) (x : ℕ) → map f (xs ++ (x ∷ [])) ≡ map f xs ++ (f x ∷ [])
+map-snoc f [] x = refl
+map-snoc f (y ∷ ys) x = ap (λ (l : List ℕ). f y ∷ l) (map-snoc f ys x)
+
+pub overwrite-none : (f : ℕ → ℕ) (old : List ℕ) → overwrite 0 f old ≡ old
+unfolding overwrite upto
+overwrite-none f old = refl
+
+pub overwrite-more : (f : ℕ → ℕ) (old : List ℕ) (k : ℕ) → k < length old → set (overwrite k f old) k (f k) ≡ overwrite (k + 1) f old
+unfolding overwrite upto
+overwrite-more f old k h =
+    rw (add-one k, drop-cons old k 0 h, map-snoc f (upto k) k)
+    (set-at (map f (upto k)) (getD old k 0) (drop (suc k) old) (f k) k (map-upto f k)
+    ∙ sym (append-snoc (map f (upto k)) (f k) (drop (suc k) old)))
+
+pub overwrite-length : (n : ℕ) (f : ℕ → ℕ) (old : List ℕ) → n ≤ length old → length (overwrite n f old) ≡ length old
+unfolding overwrite
+overwrite-length n f old h = rw (length-append, map-upto, length-drop) (omega arith)
+
+pub overwrite-at : (n : ℕ) (f : ℕ → ℕ) (old : List ℕ) (i : ℕ) → i < n → getD (overwrite n f old) i 0 ≡ f i
+unfolding overwrite
+overwrite-at n f old i h =
+    List·getD-append (map f (upto n)) (drop n old) 0 i (rw map-upto h) ∙ getD-map-in (upto n) i (rw length-upto h) ∙ ap f (getD-upto n i 0 h)
+  where
+    getD-map-in : (xs : List ℕ) (i : ℕ) → i < length xs → getD (map f xs) i 0 ≡ f (getD xs i 0)
+    getD-map-in [] i r = absurd (omega (arith, r))
+    getD-map-in (x ∷ xs) zero r = refl
+    getD-map-in (x ∷ xs) (suc i) r = getD-map-in xs i (omega (arith, r))
+
+pub overwrite-later : (n : ℕ) (f : ℕ → ℕ) (old : List ℕ) (i : ℕ) → getD (overwrite n f old) (n + i) 0 ≡ getD old (n + i) 0
+unfolding overwrite
+overwrite-later n f old i =
+    ap (λ (k : ℕ). getD (map f (upto n) ++ drop n old) (k + i) 0) (sym (map-upto f n))
+    ∙ getD-append-add (map f (upto n)) (drop n old) i 0
+    ∙ getD-drop n old i 0
