@@ -2,14 +2,15 @@
 -- Assumes nothing.
 use Prim.Native.Nat.{ℕ, zero, suc, _+_, _<_, _≤_}
 use native.Mathlib.Nat.{not-suc-le-zero, le-of-suc-le-suc, eq-or-lt-of-le}
+use native.Mathlib.Numerals.{add-one}
 use native.Mathlib.Omega.{arith}
 use mathlib.Core.Path.{_≡_, refl, sym, ap, ap₂, _∙_}
 use mathlib.Core.Bool.{Bool, true, false, not, cond, _&&_, _||_, false≢true, and-true, and-assoc}
 use mathlib.Core.Logic.{_⊎_, inl, inr}
-use mathlib.Core.List.{List, [], _∷_, _++_, map, reverse, reverseAux, List·Memᴰ, List·Memᴰ·head, List·Memᴰ·tail, Memᴰ·append-left, Memᴰ·append-right, List·Memᴰ·append-cases, List·Memᴰ·cases-cons, List·Memᴰ·not-nil, List·Memᴰ·eq-of-singleton}
+use mathlib.Core.List.{List, [], _∷_, _++_, append-nil, map, reverse, reverseAux, List·Memᴰ, List·Memᴰ·head, List·Memᴰ·tail, Memᴰ·append-left, Memᴰ·append-right, List·Memᴰ·append-cases, List·Memᴰ·cases-cons, List·Memᴰ·not-nil, List·Memᴰ·eq-of-singleton}
 use mathlib.Core.Option.{Option, none, some}
 use lib.ListN.{length, getD, take, drop, length-append, List·getD-append}
-use lib.Seq.{getD-at}
+use lib.Seq.{getD-at, take-suc}
 use Rattle.rules.specs.Bounded.{upto, sum, every, any, keep, first, matching}
 
 -- a test's two values, with the equation
@@ -196,6 +197,73 @@ module _ {A : Type 0} where
       go : (p y ≡ true) ⊎ (p y ≡ false) → (first p ys ≡ some x → first p (ys ++ zs) ≡ some x) → first p (y ∷ ys ++ zs) ≡ some x
       go (inl t) rest = cc (first-hit p y ys t, first-hit p y (ys ++ zs) t)
       go (inr t) rest = first-miss p y (ys ++ zs) t ∙ rest (sym (first-miss p y ys t) ∙ e)
+
+-- The same by place, as a loop over the places has it.
+module _ {A : Type 0} where
+  pub every-places : (p : A → Bool) (xs : List A) (d : A) → ((i : ℕ) → i < length xs → p (getD xs i d) ≡ true) → every p xs ≡ true
+  unfolding every
+  every-places p [] d h = refl
+  every-places p (x ∷ xs) d h =
+      and-both (p x) (every p xs) (h 0 (omega arith)) (every-places p xs d (λ i r. h (suc i) (omega (arith, r))))
+
+  pub every-place : (p : A → Bool) (xs : List A) (d : A) → every p xs ≡ true → (i : ℕ) → i < length xs → p (getD xs i d) ≡ true
+  every-place p xs d e i h = every-mem p xs e (getD-mem xs i d h)
+
+  pub every-broken : (p : A → Bool) (xs : List A) (d : A) (i : ℕ) → i < length xs → p (getD xs i d) ≡ false → every p xs ≡ false
+  every-broken p xs d i h e = go (every p xs) refl
+    where
+      go : (t : Bool) → every p xs ≡ t → every p xs ≡ false
+      go true q = absurd (false≢true (sym e ∙ every-place p xs d q i h))
+      go false q = q
+
+  pub any-places : (p : A → Bool) (xs : List A) (d : A) → ((i : ℕ) → i < length xs → p (getD xs i d) ≡ false) → any p xs ≡ false
+  unfolding any
+  any-places p [] d h = refl
+  any-places p (x ∷ xs) d h = or-none (p x) (any p xs) (h 0 (omega arith)) (any-places p xs d (λ i r. h (suc i) (omega (arith, r))))
+
+  pub first-place : (p : A → Bool) (xs : List A) (d : A) (i : ℕ) → i < length xs → p (getD xs i d) ≡ true
+      → ((k : ℕ) → k < i → p (getD xs k d) ≡ false) → first p xs ≡ some (getD xs i d)
+  first-place p [] d i h e low = absurd (not-suc-le-zero h)
+  first-place p (x ∷ xs) d zero h e low = first-hit p x xs e
+  first-place p (x ∷ xs) d (suc i) h e low =
+      first-miss p x xs (low 0 (omega arith))
+      ∙ first-place p xs d i (le-of-suc-le-suc h) e (λ k r. low (suc k) (omega (arith, r)))
+
+  pub none-places : (p : A → Bool) (xs : List A) (d : A) → ((i : ℕ) → i < length xs → p (getD xs i d) ≡ false) → first p xs ≡ none
+  unfolding first
+  none-places p [] d h = refl
+  none-places p (x ∷ xs) d h = first-miss p x xs (h 0 (omega arith)) ∙ none-places p xs d (λ i r. h (suc i) (omega (arith, r)))
+
+  -- what is kept of the first elements, with one more
+  pub keep-take-hit : (p : A → Bool) (xs : List A) (d : A) (i : ℕ) → i < length xs → p (getD xs i d) ≡ true
+      → keep p (take (i + 1) xs) ≡ keep p (take i xs) ++ (getD xs i d ∷ [])
+  unfolding keep
+  keep-take-hit p xs d i h e = rw (add-one i, take-suc xs i d h, keep-append) (ap (λ (l : List A). keep p (take i xs) ++ l) (keep-hit p (getD xs i d) [] e))
+
+  pub keep-take-miss : (p : A → Bool) (xs : List A) (d : A) (i : ℕ) → i < length xs → p (getD xs i d) ≡ false
+      → keep p (take (i + 1) xs) ≡ keep p (take i xs)
+  unfolding keep
+  keep-take-miss p xs d i h e =
+      rw (add-one i, take-suc xs i d h, keep-append)
+      (ap (λ (l : List A). keep p (take i xs) ++ l) (keep-miss p (getD xs i d) [] e) ∙ append-nil (keep p (take i xs)))
+
+pub keep-upto-hit : (p : ℕ → Bool) (n : ℕ) → p n ≡ true → keep p (upto (n + 1)) ≡ keep p (upto n) ++ (n ∷ [])
+unfolding upto keep
+keep-upto-hit p n e = rw (add-one n, keep-append) (ap (λ (l : List ℕ). keep p (upto n) ++ l) (keep-hit p n [] e))
+
+pub keep-upto-miss : (p : ℕ → Bool) (n : ℕ) → p n ≡ false → keep p (upto (n + 1)) ≡ keep p (upto n)
+unfolding upto keep
+keep-upto-miss p n e =
+    rw (add-one n, keep-append) (ap (λ (l : List ℕ). keep p (upto n) ++ l) (keep-miss p n [] e) ∙ append-nil (keep p (upto n)))
+
+pub keep-length : {A : Type 0} (p : A → Bool) (xs : List A) → length (keep p xs) ≤ length xs
+unfolding keep
+keep-length p [] = omega arith
+keep-length {A} p (x ∷ xs) = go (test (p x)) (keep-length p xs)
+  where
+    go : (p x ≡ true) ⊎ (p x ≡ false) → length (keep p xs) ≤ length xs → length (keep p (x ∷ xs)) ≤ suc (length xs)
+    go (inl e) h = rw (keep-hit p x xs e) (omega arith)
+    go (inr e) h = rw (keep-miss p x xs e) (omega arith)
 
 pub upto-below : (n : ℕ) {k : ℕ} → List·Memᴰ k (upto n) → k < n
 unfolding upto

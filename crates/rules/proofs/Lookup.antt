@@ -109,6 +109,18 @@ select-missing M (x ∷ xs) e = go (first (leads M (x ∷ xs)) (x ∷ xs)) refl
     go none q = absurd (false≢true (cc (ap (λ (r : Option ℕ). leaderOr r (rivals M (x ∷ xs))) q)))
     go (some k) q = absurd (false≢true (cc (ap (λ (r : Option ℕ). leaderOr r (rivals M (x ∷ xs))) q)))
 
+-- and back: what a search for the leader makes of `select`
+pub leader-selected : (M : Model) (ms : List ℕ) (m : ℕ) → first (leads M ms) ms ≡ some m → select M ms ≡ found m
+unfolding select leaderOr first
+leader-selected M [] m e = absurd (false≢true (cc))
+leader-selected M (x ∷ xs) m e = ap (λ (r : Option ℕ). leaderOr r (rivals M (x ∷ xs))) e
+
+pub none-selected : (M : Model) (ms : List ℕ) → 0 < length ms → first (leads M ms) ms ≡ none
+    → select M ms ≡ ambiguous (getD (rivals M ms) 0 0) (getD (rivals M ms) 1 0)
+unfolding select leaderOr
+none-selected M [] h e = absurd (not-suc-le-zero h)
+none-selected M (x ∷ xs) h e = ap (λ (r : Option ℕ). leaderOr r (rivals M (x ∷ xs))) e
+
 select-ambiguous : (M : Model) (ms : List ℕ) (m n : ℕ) → select M ms ≡ ambiguous m n
     → (first (leads M ms) ms ≡ none) × (0 < length ms) × (m ≡ getD (rivals M ms) 0 0) × (n ≡ getD (rivals M ms) 1 0)
 unfolding select leaderOr
