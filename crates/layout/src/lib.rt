@@ -1,0 +1,5 @@
+// The opened bundle: its directory, the rules of its records, and a reader for each field of a record.
+pub mod bundle;
+pub mod bytes;
+pub mod directory;
+pub mod record;
