@@ -1,0 +1,136 @@
+-- Where the records, lists and bodies of a bundle that keeps the rules lie within it, and what the parts read from it hold.
+-- Assumes nothing.
+use Prim.Native.Nat.{ℕ, zero, suc, _+_, _*_, _/_, _≤_, _<_}
+use native.Mathlib.Omega.{arith}
+use mathlib.Core.Path.{_≡_, refl, sym}
+use mathlib.Core.Bool.{true}
+use mathlib.Core.List.{List, [], _∷_}
+use lib.Dec.{eqb}
+use lib.ListN.{length, take, drop, getD, length-drop}
+use lib.Seq.{length-take-le}
+use borrow.Author.Tests.{leb-true, eqb-true}
+use Rattle.rules.specs.Bounded.{sum, every}
+use Rattle.rules.specs.Bytes.{part}
+use Rattle.rules.specs.Layout.{offset, extent, sequenceRule, tupleRule, classAt, listOffset, listLength, parentsOf, classRule, signatureAt, sigTupleOf, methodAt, specialiserTupleOf, declaredTupleOf, bodyOffset, bodyLength, codeOf, methodRule, classCount, functionCount, signatureCount, methodCount, functionSection, places}
+use Rattle.rules.specs.Model.{Instr, decode, instructions}
+use Rattle.rules.proofs.Lists.{and-left, and-right}
+use Rattle.rules.proofs.Opening.{Rules, Sections, sections}
+
+-- what a record of a sequence says of its own list
+module _ (start size : ℕ → ℕ) (n end k : ℕ) (rule : sequenceRule start size n end k ≡ true) where
+  pub sequence-begins : start k ≡ sum size k
+  unfolding sequenceRule
+  sequence-begins = eqb-true (start k) (sum size k) (search (and-left, and-right))
+
+  pub sequence-fits : start k + size k ≤ end
+  unfolding sequenceRule
+  sequence-fits = leb-true (start k + size k) end (search (and-left, and-right))
+
+pub class-sequence : (b : List ℕ) (c : ℕ) → classRule b c ≡ true → sequenceRule (listOffset b) (listLength b) (classCount b) (extent b 1) c ≡ true
+unfolding classRule
+class-sequence b c e = search (and-left, and-right)
+
+pub method-sequence : (b : List ℕ) (m : ℕ) → methodRule b m ≡ true → sequenceRule (bodyOffset b) (bodyLength b) (methodCount b) (extent b 5) m ≡ true
+unfolding methodRule
+method-sequence b m e = search (and-left, and-right) depth 9
+
+part-length : (b : List ℕ) (i n : ℕ) → i + n ≤ length b → length (part b i n) ≡ n
+unfolding part
+part-length b i n h = length-take-le n (drop i b) (simp length-drop (omega arith))
+
+pub rules-sections : (b : List ℕ) → Rules b → Sections b
+rules-sections b r = sections b (r .size) (r .chain)
+
+-- each section, record, list and body lies within the bundle, so each part read from it is as long as it says
+module _ (b : List ℕ) (r : Rules b) where
+  pub offset-within : (k : ℕ) → k < 6 → offset b k ≤ length b
+  offset-within zero h = omega (arith, rules-sections b r)
+  offset-within (suc zero) h = omega (arith, rules-sections b r)
+  offset-within (suc (suc zero)) h = omega (arith, rules-sections b r)
+  offset-within (suc (suc (suc zero))) h = omega (arith, rules-sections b r)
+  offset-within (suc (suc (suc (suc zero)))) h = omega (arith, rules-sections b r)
+  offset-within (suc (suc (suc (suc (suc zero))))) h = omega (arith, rules-sections b r)
+  offset-within (suc (suc (suc (suc (suc (suc k)))))) h = absurd (omega arith)
+
+  pub class-within : (c : ℕ) → c < classCount b → classAt b c + 6 ≤ offset b 1
+  unfolding classAt classCount
+  class-within c h = let s = rules-sections b r in omega arith
+
+  pub function-within : (f : ℕ) → f < functionCount b → offset b functionSection + f < offset b 3
+  unfolding functionCount
+  function-within f h = let s = rules-sections b r in omega arith
+
+  pub signature-within : (s : ℕ) → s < signatureCount b → signatureAt b s + 5 ≤ offset b 4
+  unfolding signatureAt signatureCount
+  signature-within s h = let p = rules-sections b r in omega arith
+
+  pub method-within : (m : ℕ) → m < methodCount b → methodAt b m + 12 ≤ offset b 5
+  unfolding methodAt methodCount
+  method-within m h = let s = rules-sections b r in omega arith
+
+  pub list-within : (c : ℕ) → c < classCount b → offset b 1 + listOffset b c + listLength b c ≤ offset b 2
+  list-within c h =
+      let s = rules-sections b r in
+      let f = sequence-fits (listOffset b) (listLength b) (classCount b) (extent b 1) c (class-sequence b c (r .ofClass c h)) in
+      omega arith
+
+  pub body-within : (m : ℕ) → m < methodCount b → offset b 5 + bodyOffset b m + bodyLength b m ≤ length b
+  body-within m h =
+      let s = rules-sections b r in
+      let f = sequence-fits (bodyOffset b) (bodyLength b) (methodCount b) (extent b 5) m (method-sequence b m (r .ofMethod m h)) in
+      omega arith
+
+  pub parents-length : (c : ℕ) → c < classCount b → length (parentsOf b c) ≡ listLength b c
+  unfolding parentsOf
+  parents-length c h = part-length b (offset b 1 + listOffset b c) (listLength b c) (omega (arith, list-within c h, offset-within 2 (omega arith)))
+
+  pub code-length : (m : ℕ) → m < methodCount b → length (codeOf b m) ≡ bodyLength b m
+  unfolding codeOf
+  code-length m h = part-length b (offset b 5 + bodyOffset b m) (bodyLength b m) (body-within m h)
+
+  pub sig-tuple-length : (s : ℕ) → s < signatureCount b → length (sigTupleOf b s) ≡ places
+  unfolding sigTupleOf
+  sig-tuple-length s h = part-length b (signatureAt b s + 1) 3 (omega (arith, signature-within s h, offset-within 4 (omega arith)))
+
+  pub specialiser-tuple-length : (m : ℕ) → m < methodCount b → length (specialiserTupleOf b m) ≡ places
+  unfolding specialiserTupleOf
+  specialiser-tuple-length m h = part-length b (methodAt b m + 1) 3 (omega (arith, method-within m h, offset-within 5 (omega arith)))
+
+  pub declared-tuple-length : (m : ℕ) → m < methodCount b → length (declaredTupleOf b m) ≡ places
+  unfolding declaredTupleOf
+  declared-tuple-length m h = part-length b (methodAt b m + 4) 3 (omega (arith, method-within m h, offset-within 5 (omega arith)))
+
+zeros-read-zero : (t : List ℕ) → every (λ c. eqb c 0) t ≡ true → (i : ℕ) → getD t i 0 ≡ 0
+unfolding every
+zeros-read-zero [] e i = refl
+zeros-read-zero (x ∷ t) e zero = eqb-true x 0 (and-left (eqb x 0) (every (λ c. eqb c 0) t) e)
+zeros-read-zero (x ∷ t) e (suc i) = zeros-read-zero t (and-right (eqb x 0) (every (λ c. eqb c 0) t) e) i
+
+zeros-cut : (n : ℕ) (t : List ℕ) → every (λ c. eqb c 0) (drop n t) ≡ true → (i : ℕ) → getD (take n t) i 0 ≡ getD t i 0
+zeros-cut zero t e i = sym (zeros-read-zero t e i)
+zeros-cut (suc n) [] e i = refl
+zeros-cut (suc n) (x ∷ t) e zero = refl
+zeros-cut (suc n) (x ∷ t) e (suc i) = zeros-cut n t e i
+
+-- unused places of a tuple are 0, so its used places read as the whole does
+pub used-places-read : (classes n : ℕ) (t : List ℕ) → tupleRule classes n t ≡ true → (i : ℕ) → getD (take n t) i 0 ≡ getD t i 0
+unfolding tupleRule
+used-places-read classes n t e = zeros-cut n t (search (and-left, and-right))
+
+-- two bytes to an instruction
+pub instructions-length : (bytes : List ℕ) → length (instructions bytes) ≡ length bytes / 2
+unfolding instructions
+instructions-length [] = refl
+instructions-length (x ∷ []) = refl
+instructions-length (x ∷ y ∷ rest) = omega (arith, instructions-length rest)
+
+pub instructions-read : (bytes : List ℕ) (i : ℕ) (d : Instr) → 2 * i + 1 < length bytes
+    → getD (instructions bytes) i d ≡ decode (getD bytes (2 * i) 0) (getD bytes (2 * i + 1) 0)
+unfolding instructions
+instructions-read [] i d h = absurd (omega arith)
+instructions-read (x ∷ []) i d h = absurd (omega arith)
+instructions-read (x ∷ y ∷ rest) zero d h = refl
+instructions-read (x ∷ y ∷ rest) (suc i) d h =
+    let even : 2 * suc i ≡ suc (suc (2 * i)) = omega arith in
+    let odd : 2 * suc i + 1 ≡ suc (suc (2 * i + 1)) = omega arith in
+    rw (odd, even) (instructions-read rest i d (omega arith))
