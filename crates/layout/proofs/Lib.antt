@@ -1,0 +1,4 @@
+pub mod Judged
+pub mod Parts
+pub mod Search
+pub mod Within
