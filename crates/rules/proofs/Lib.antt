@@ -1,5 +1,12 @@
 pub mod Lists
+pub mod Order
 pub mod Opening
 pub mod Places
 pub mod Wellformed
+pub mod Subclass
+pub mod Lookup
+pub mod Coverage
+pub mod Types
+pub mod Machine
+pub mod Sound
 pub mod Cases

@@ -4,11 +4,11 @@ use Prim.Native.Nat.{ℕ, zero, suc, _+_, _<_, _≤_}
 use native.Mathlib.Nat.{not-suc-le-zero, le-of-suc-le-suc, eq-or-lt-of-le}
 use native.Mathlib.Omega.{arith}
 use mathlib.Core.Path.{_≡_, refl, sym, ap, ap₂, _∙_}
-use mathlib.Core.Bool.{Bool, true, false, not, cond, _&&_, _||_, false≢true, true≢false}
+use mathlib.Core.Bool.{Bool, true, false, not, cond, _&&_, _||_, false≢true, and-true, and-assoc}
 use mathlib.Core.Logic.{_⊎_, inl, inr}
-use mathlib.Core.List.{List, [], _∷_, _++_, map, List·Memᴰ, List·Memᴰ·head, List·Memᴰ·tail, Memᴰ·append-left, Memᴰ·append-right, List·Memᴰ·append-cases, List·Memᴰ·cases-cons, List·Memᴰ·not-nil, List·Memᴰ·eq-of-singleton}
+use mathlib.Core.List.{List, [], _∷_, _++_, map, reverse, reverseAux, List·Memᴰ, List·Memᴰ·head, List·Memᴰ·tail, Memᴰ·append-left, Memᴰ·append-right, List·Memᴰ·append-cases, List·Memᴰ·cases-cons, List·Memᴰ·not-nil, List·Memᴰ·eq-of-singleton}
 use mathlib.Core.Option.{Option, none, some}
-use lib.ListN.{length, getD, length-append, List·getD-append}
+use lib.ListN.{length, getD, take, drop, length-append, List·getD-append}
 use lib.Seq.{getD-at}
 use Rattle.rules.specs.Bounded.{upto, sum, every, any, keep, first, matching}
 
@@ -58,6 +58,11 @@ module _ {A : Type 0} where
   every-from p [] h = refl
   every-from p (y ∷ ys) h =
       and-both (p y) (every p ys) (h y (List·Memᴰ·head refl)) (every-from p ys (λ x m. h x (List·Memᴰ·tail m)))
+
+  pub getD-mem : (xs : List A) (i : ℕ) (d : A) → i < length xs → List·Memᴰ (getD xs i d) xs
+  getD-mem [] i d h = absurd (not-suc-le-zero h)
+  getD-mem (x ∷ xs) zero d h = List·Memᴰ·head refl
+  getD-mem (x ∷ xs) (suc i) d h = List·Memᴰ·tail (getD-mem xs i d (le-of-suc-le-suc h))
 
   pub any-mem : (p : A → Bool) (xs : List A) → any p xs ≡ true → (x : A) × List·Memᴰ x xs × (p x ≡ true)
   unfolding any
@@ -218,6 +223,33 @@ getD-upto (suc n) k d h = go (eq-or-lt-of-le (le-of-suc-le-suc h)) (λ r. getD-u
     go (inl q) rest = rw q (getD-at (upto n) n [] d n (length-upto n))
     go (inr r) rest = List·getD-append (upto n) (n ∷ []) d k (rw (length-upto n) r) ∙ rest r
 
+-- each element is below the later ones
+abbrev pub Rising : List ℕ → Type 0
+Rising [] = Unit {0}
+Rising (x ∷ xs) = ((y : ℕ) → List·Memᴰ y xs → x < y) × Rising xs
+
+rising-snoc : (xs : List ℕ) (n : ℕ) → Rising xs → ((y : ℕ) → List·Memᴰ y xs → y < n) → Rising (xs ++ (n ∷ []))
+rising-snoc [] n r h = (λ y m. absurd (List·Memᴰ·not-nil m), tt)
+rising-snoc (x ∷ xs) n r h = (λ y m. go y (List·Memᴰ·append-cases xs m), rising-snoc xs n (r .1) (λ y m. h y (List·Memᴰ·tail m)))
+  where
+    go : (y : ℕ) → List·Memᴰ y xs ⊎ List·Memᴰ y (n ∷ []) → x < y
+    go y (inl m) = r .0 y m
+    go y (inr m) = rw (List·Memᴰ·eq-of-singleton m) (h x (List·Memᴰ·head refl))
+
+pub rising-upto : (n : ℕ) → Rising (upto n)
+unfolding upto
+rising-upto zero = tt
+rising-upto (suc n) = rising-snoc (upto n) n (rising-upto n) (λ y m. upto-below n m)
+
+pub rising-keep : (p : ℕ → Bool) (xs : List ℕ) → Rising xs → Rising (keep p xs)
+unfolding keep
+rising-keep p [] r = tt
+rising-keep p (x ∷ xs) r = go (test (p x)) (rising-keep p xs (r .1))
+  where
+    go : (p x ≡ true) ⊎ (p x ≡ false) → Rising (keep p xs) → Rising (keep p (x ∷ xs))
+    go (inl e) rest = rw (keep-hit p x xs e) (λ y m. r .0 y (keep-mem p xs m .0), rest)
+    go (inr e) rest = rw (keep-miss p x xs e) rest
+
 -- The lowest number below n at which a test passes: there is none, or it passes there and at no lower one.
 pub lowest-none : (p : ℕ → Bool) (n : ℕ) → first p (upto n) ≡ none → (k : ℕ) → k < n → p k ≡ false
 lowest-none p n e k h = first-none p (upto n) e (below-upto n k h)
@@ -284,6 +316,50 @@ module _ {A B : Type 0} where
       and-both (p x y) (matching p xs ys) (h 0 (omega arith))
       (matching-from p xs ys d d′ (omega (arith, e)) (λ i r. h (suc i) (omega (arith, r))))
 
+  -- `matching` goes with taking, dropping and reversing both lists
+  pub matching-take : (p : A → B → Bool) (n : ℕ) (xs : List A) (ys : List B) → matching p xs ys ≡ true → matching p (take n xs) (take n ys) ≡ true
+  unfolding matching
+  matching-take p zero xs ys e = refl
+  matching-take p (suc n) [] [] e = refl
+  matching-take p (suc n) [] (y ∷ ys) e = absurd (false≢true e)
+  matching-take p (suc n) (x ∷ xs) [] e = absurd (false≢true e)
+  matching-take p (suc n) (x ∷ xs) (y ∷ ys) e =
+      and-both (p x y) (matching p (take n xs) (take n ys)) (and-left (p x y) (matching p xs ys) e)
+      (matching-take p n xs ys (and-right (p x y) (matching p xs ys) e))
+
+  pub matching-drop : (p : A → B → Bool) (n : ℕ) (xs : List A) (ys : List B) → matching p xs ys ≡ true → matching p (drop n xs) (drop n ys) ≡ true
+  unfolding matching
+  matching-drop p zero xs ys e = e
+  matching-drop p (suc n) [] [] e = refl
+  matching-drop p (suc n) [] (y ∷ ys) e = absurd (false≢true e)
+  matching-drop p (suc n) (x ∷ xs) [] e = absurd (false≢true e)
+  matching-drop p (suc n) (x ∷ xs) (y ∷ ys) e = matching-drop p n xs ys (and-right (p x y) (matching p xs ys) e)
+
+  matching-onto : (p : A → B → Bool) (xs us : List A) (ys vs : List B) → matching p xs ys ≡ true → matching p us vs ≡ true
+      → matching p (reverseAux xs us) (reverseAux ys vs) ≡ true
+  unfolding matching
+  matching-onto p [] us [] vs e f = f
+  matching-onto p [] us (y ∷ ys) vs e f = absurd (false≢true e)
+  matching-onto p (x ∷ xs) us [] vs e f = absurd (false≢true e)
+  matching-onto p (x ∷ xs) us (y ∷ ys) vs e f =
+      matching-onto p xs (x ∷ us) ys (y ∷ vs) (and-right (p x y) (matching p xs ys) e)
+      (and-both (p x y) (matching p us vs) (and-left (p x y) (matching p xs ys) e) f)
+
+  pub matching-reverse : (p : A → B → Bool) (xs : List A) (ys : List B) → matching p xs ys ≡ true → matching p (reverse xs) (reverse ys) ≡ true
+  unfolding matching
+  matching-reverse p xs ys e = matching-onto p xs [] ys [] e refl
+
+  -- one more element in front of which all match: it is compared with the next element of the other list
+  pub matching-snoc : (p : A → B → Bool) (xs : List A) (a : A) (ys : List B) (d : B) → length xs < length ys
+      → matching p (xs ++ (a ∷ [])) (take (length (xs ++ (a ∷ []))) ys) ≡ (matching p xs (take (length xs) ys) && p a (getD ys (length xs) d))
+  unfolding matching
+  matching-snoc p [] a [] d h = absurd (not-suc-le-zero h)
+  matching-snoc p [] a (y ∷ ys) d h = and-true (p a y)
+  matching-snoc p (x ∷ xs) a [] d h = absurd (not-suc-le-zero h)
+  matching-snoc p (x ∷ xs) a (y ∷ ys) d h =
+      ap (λ (t : Bool). p x y && t) (matching-snoc p xs a ys d (le-of-suc-le-suc h))
+      ∙ sym (and-assoc (p x y) (matching p xs (take (length xs) ys)) (p a (getD ys (length xs) d)))
+
 -- A relation that is reflexive or transitive where it has to be is so place by place.
 module _ {A : Type 0} where
   pub matching-refl : (p : A → A → Bool) (xs : List A) → ((x : A) → List·Memᴰ x xs → p x x ≡ true) → matching p xs xs ≡ true
@@ -292,21 +368,20 @@ module _ {A : Type 0} where
   matching-refl p (x ∷ xs) h =
       and-both (p x x) (matching p xs xs) (h x (List·Memᴰ·head refl)) (matching-refl p xs (λ y m. h y (List·Memᴰ·tail m)))
 
-  pub matching-trans : {B C : Type 0} (p : A → B → Bool) (q : B → C → Bool) (r : A → C → Bool)
-      → ((a : A) (b : B) (c : C) → p a b ≡ true → q b c ≡ true → r a c ≡ true)
-      → (xs : List A) (ys : List B) (zs : List C) → matching p xs ys ≡ true → matching q ys zs ≡ true → matching r xs zs ≡ true
+  pub matching-trans : {B C : Type 0} (p : A → B → Bool) (q : B → C → Bool) (r : A → C → Bool) (xs : List A) (ys : List B) (zs : List C)
+      → ((a : A) (b : B) (c : C) → List·Memᴰ a xs → p a b ≡ true → q b c ≡ true → r a c ≡ true)
+      → matching p xs ys ≡ true → matching q ys zs ≡ true → matching r xs zs ≡ true
   unfolding matching
-  matching-trans p q r h [] [] [] e f = refl
-  matching-trans p q r h [] [] (z ∷ zs) e f = f
-  matching-trans p q r h [] (y ∷ ys) zs e f = absurd (false≢true e)
-  matching-trans p q r h (x ∷ xs) [] zs e f = absurd (false≢true e)
-  matching-trans p q r h (x ∷ xs) (y ∷ ys) [] e f = absurd (false≢true f)
-  matching-trans p q r h (x ∷ xs) (y ∷ ys) (z ∷ zs) e f =
+  matching-trans p q r [] [] [] h e f = refl
+  matching-trans p q r [] [] (z ∷ zs) h e f = f
+  matching-trans p q r [] (y ∷ ys) zs h e f = absurd (false≢true e)
+  matching-trans p q r (x ∷ xs) [] zs h e f = absurd (false≢true e)
+  matching-trans p q r (x ∷ xs) (y ∷ ys) [] h e f = absurd (false≢true f)
+  matching-trans p q r (x ∷ xs) (y ∷ ys) (z ∷ zs) h e f =
       and-both (r x z) (matching r xs zs)
-      (h x y z (and-left (p x y) (matching p xs ys) e) (and-left (q y z) (matching q ys zs) f))
-      (matching-trans p q r h xs ys zs (and-right (p x y) (matching p xs ys) e) (and-right (q y z) (matching q ys zs) f))
+      (h x y z (List·Memᴰ·head refl) (and-left (p x y) (matching p xs ys) e) (and-left (q y z) (matching q ys zs) f))
+      (matching-trans p q r xs ys zs (λ a b c m. h a b c (List·Memᴰ·tail m)) (and-right (p x y) (matching p xs ys) e) (and-right (q y z) (matching q ys zs) f))
 
-  -- a relation that is antisymmetric on the elements of the first list
   pub matching-antisym : (p : A → A → Bool) (xs ys : List A) → ((x y : A) → List·Memᴰ x xs → List·Memᴰ y ys → p x y ≡ true → p y x ≡ true → x ≡ y)
       → matching p xs ys ≡ true → matching p ys xs ≡ true → xs ≡ ys
   unfolding matching

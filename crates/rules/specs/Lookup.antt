@@ -5,7 +5,7 @@ use mathlib.Core.Bool.{Bool, not, _&&_, _||_}
 use mathlib.Core.List.{List, [], _∷_}
 use mathlib.Core.Option.{Option, none, some}
 use lib.Dec.{eqb}
-use lib.ListN.{getD}
+use lib.ListN.{length, getD, take}
 use Rattle.rules.specs.Bounded.{upto, every, keep, first}
 use Rattle.rules.specs.Model.{Model}
 use Rattle.rules.specs.Subclass.{under}
@@ -23,6 +23,11 @@ applies M args m = under M args (M .specialisers m)
 -- the applicable methods of a function, rising
 unfoldable pub applicable : Model → ℕ → List ℕ → List ℕ
 applicable M f args = keep (λ m. eqb (M .function m) f && applies M args m) (upto (M .methods))
+
+-- the same for the first arguments alone: what is left of a function's methods once some of the places are filled
+unfoldable pub applicableSoFar : Model → ℕ → List ℕ → List ℕ
+applicableSoFar M f chosen =
+    keep (λ m. eqb (M .function m) f && under M chosen (take (length chosen) (M .specialisers m))) (upto (M .methods))
 
 -- "One method is at least as specific as another when each of its specialisers is under the other's."
 unfoldable pub asSpecific : Model → ℕ → ℕ → Bool

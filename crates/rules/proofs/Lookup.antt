@@ -1,0 +1,318 @@
+-- Lookup: what is found applies, leads and is the only one that does; none is found exactly when none applies; an ambiguous lookup has two rivals to
+-- name; narrowing the methods place by place comes to the same list as filtering at once.
+-- Assumes nothing.
+use Prim.Native.Nat.{ℕ, zero, suc, _+_, _<_}
+use native.Mathlib.Omega.{arith}
+use native.Mathlib.Nat.{not-suc-le-zero, le-of-eq}
+use native.Mathlib.Decide.{ℕ-discrete}
+use mathlib.Core.Path.{_≡_, refl, sym, ap, _∙_}
+use mathlib.Core.Bool.{Bool, true, false, not, _&&_, _||_, false≢true, and-true}
+use mathlib.Core.Logic.{_⊎_, inl, inr, _↔_}
+use mathlib.Core.List.{List, [], _∷_, _++_, List·Memᴰ, List·Memᴰ·head, List·Memᴰ·tail, List·Memᴰ·not-nil, List·Memᴰ·eq-of-singleton}
+use mathlib.Core.Option.{Option, none, some}
+use lib.Dec.{eqb}
+use lib.ListN.{length, getD, take, drop}
+use lib.Seq.{take-all}
+use borrow.Author.Tests.{eqb-true, eq-eqb, not-true}
+use Rattle.rules.specs.Bounded.{upto, every, keep, first, matching}
+use Rattle.rules.specs.Model.{Model, Wellformed, present}
+use Rattle.rules.specs.Subclass.{subclass, under}
+use Rattle.rules.specs.Lookup.{Found, found, missing, ambiguous, applies, applicable, applicableSoFar, asSpecific, leads, unbeaten, rivals, leaderOr, select, lookup}
+use Rattle.rules.proofs.Lists.{test, and-left, and-right, and-both, or-cases, or-left, or-right, every-mem, every-from, keep-mem, keep-in, keep-agree, keep-keep, matching-length, matching-snoc, first-mem, first-none, upto-below, below-upto, Rising, rising-upto, rising-keep}
+use Rattle.rules.proofs.Order.{Minimal, minimal}
+use Rattle.rules.proofs.Subclass.{under-itself, under-trans, under-antisym}
+
+-- an applicable method of a function
+pub record Candidate (M : Model) (f : ℕ) (args : List ℕ) (m : ℕ) : Type 0 where
+  pub bound : m < M .methods
+  pub ofFunction : M .function m ≡ f
+  pub applying : applies M args m ≡ true
+
+-- the candidate is at least as specific as every candidate
+pub record Leader (M : Model) (f : ℕ) (args : List ℕ) (m : ℕ) : Type 0 where
+  pub candidate : Candidate M f args m
+  pub specific : (n : ℕ) → Candidate M f args n → asSpecific M m n ≡ true
+
+-- a candidate that no other candidate is at least as specific as
+pub record Rival (M : Model) (f : ℕ) (args : List ℕ) (m : ℕ) : Type 0 where
+  pub candidate : Candidate M f args m
+  pub alone : (n : ℕ) → Candidate M f args n → (n ≡ m → ⊥) → asSpecific M n m ≡ false
+
+pub applicable-candidate : (M : Model) (f : ℕ) (args : List ℕ) {m : ℕ} → List·Memᴰ m (applicable M f args) → Candidate M f args m
+unfolding applicable
+applicable-candidate M f args {m} h =
+    let (k, e) = keep-mem (λ m. eqb (M .function m) f && applies M args m) (upto (M .methods)) h in
+    record {
+      bound = upto-below (M .methods) k;
+      ofFunction = eqb-true (M .function m) f (and-left (eqb (M .function m) f) (applies M args m) e);
+      applying = and-right (eqb (M .function m) f) (applies M args m) e;
+    }
+
+pub candidate-applicable : (M : Model) (f : ℕ) (args : List ℕ) {m : ℕ} → Candidate M f args m → List·Memᴰ m (applicable M f args)
+unfolding applicable
+candidate-applicable M f args {m} c =
+    keep-in (λ m. eqb (M .function m) f && applies M args m) (upto (M .methods)) (below-upto (M .methods) m (c .bound))
+    (and-both (eqb (M .function m) f) (applies M args m) (eq-eqb (M .function m) f (c .ofFunction)) (c .applying))
+
+pub asSpecific-itself : (M : Model) (m : ℕ) → asSpecific M m m ≡ true
+unfolding asSpecific
+asSpecific-itself M m = under-itself M (M .specialisers m)
+
+-- what leads a list is as specific as each of its elements, itself included
+leads-all : (M : Model) (ms : List ℕ) (m : ℕ) → leads M ms m ≡ true → (n : ℕ) → List·Memᴰ n ms → asSpecific M m n ≡ true
+unfolding leads
+leads-all M ms m e n h = go (or-cases (eqb n m) (asSpecific M m n) (every-mem (λ n. eqb n m || asSpecific M m n) ms e h))
+  where
+    go : (eqb n m ≡ true) ⊎ (asSpecific M m n ≡ true) → asSpecific M m n ≡ true
+    go (inl q) = rw (eqb-true n m q) (asSpecific-itself M m)
+    go (inr q) = q
+
+all-leads : (M : Model) (ms : List ℕ) (m : ℕ) → ((n : ℕ) → List·Memᴰ n ms → asSpecific M m n ≡ true) → leads M ms m ≡ true
+unfolding leads
+all-leads M ms m h = every-from (λ n. eqb n m || asSpecific M m n) ms (λ n k. or-right (eqb n m) (asSpecific M m n) (h n k))
+
+unbeaten-alone : (M : Model) (ms : List ℕ) (m : ℕ) → unbeaten M ms m ≡ true → (n : ℕ) → List·Memᴰ n ms → (n ≡ m → ⊥) → asSpecific M n m ≡ false
+unfolding unbeaten
+unbeaten-alone M ms m e n h d =
+    go (or-cases (eqb n m) (not (asSpecific M n m)) (every-mem (λ n. eqb n m || not (asSpecific M n m)) ms e h))
+  where
+    go : (eqb n m ≡ true) ⊎ (not (asSpecific M n m) ≡ true) → asSpecific M n m ≡ false
+    go (inl q) = absurd (d (eqb-true n m q))
+    go (inr q) = not-true (asSpecific M n m) q
+
+alone-unbeaten : (M : Model) (ms : List ℕ) (m : ℕ) → ((n : ℕ) → List·Memᴰ n ms → (n ≡ m) ⊎ (asSpecific M n m ≡ false)) → unbeaten M ms m ≡ true
+unfolding unbeaten
+alone-unbeaten M ms m h = every-from (λ n. eqb n m || not (asSpecific M n m)) ms (λ n k. go n (h n k))
+  where
+    go : (n : ℕ) → (n ≡ m) ⊎ (asSpecific M n m ≡ false) → (eqb n m || not (asSpecific M n m)) ≡ true
+    go n (inl q) = or-left (eqb n m) (not (asSpecific M n m)) (eq-eqb n m q)
+    go n (inr q) = or-right (eqb n m) (not (asSpecific M n m)) (ap not q)
+
+-- The three cases of `select`, by whether the list is empty and whether it has a leader.
+select-found : (M : Model) (ms : List ℕ) (m : ℕ) → select M ms ≡ found m → List·Memᴰ m ms × (leads M ms m ≡ true)
+unfolding select leaderOr
+select-found M [] m e = absurd (false≢true (cc))
+select-found M (x ∷ xs) m e = go (first (leads M (x ∷ xs)) (x ∷ xs)) refl
+  where
+    go : (r : Option ℕ) → first (leads M (x ∷ xs)) (x ∷ xs) ≡ r → List·Memᴰ m (x ∷ xs) × (leads M (x ∷ xs) m ≡ true)
+    go none q = absurd (false≢true (cc (ap (λ (r : Option ℕ). leaderOr r (rivals M (x ∷ xs))) q)))
+    go (some k) q =
+        let same : k ≡ m = cc (ap (λ (r : Option ℕ). leaderOr r (rivals M (x ∷ xs))) q) in
+        first-mem (leads M (x ∷ xs)) (x ∷ xs) (q ∙ ap (λ (j : ℕ). some j) same)
+
+pub select-missing : (M : Model) (ms : List ℕ) → select M ms ≡ missing → ms ≡ []
+unfolding select leaderOr
+select-missing M [] e = refl
+select-missing M (x ∷ xs) e = go (first (leads M (x ∷ xs)) (x ∷ xs)) refl
+  where
+    go : (r : Option ℕ) → first (leads M (x ∷ xs)) (x ∷ xs) ≡ r → x ∷ xs ≡ []
+    go none q = absurd (false≢true (cc (ap (λ (r : Option ℕ). leaderOr r (rivals M (x ∷ xs))) q)))
+    go (some k) q = absurd (false≢true (cc (ap (λ (r : Option ℕ). leaderOr r (rivals M (x ∷ xs))) q)))
+
+select-ambiguous : (M : Model) (ms : List ℕ) (m n : ℕ) → select M ms ≡ ambiguous m n
+    → (first (leads M ms) ms ≡ none) × (0 < length ms) × (m ≡ getD (rivals M ms) 0 0) × (n ≡ getD (rivals M ms) 1 0)
+unfolding select leaderOr
+select-ambiguous M [] m n e = absurd (false≢true (cc))
+select-ambiguous M (x ∷ xs) m n e = go (first (leads M (x ∷ xs)) (x ∷ xs)) refl
+  where
+    go : (r : Option ℕ) → first (leads M (x ∷ xs)) (x ∷ xs) ≡ r
+        → (first (leads M (x ∷ xs)) (x ∷ xs) ≡ none)
+        × (0 < length (x ∷ xs))
+        × (m ≡ getD (rivals M (x ∷ xs)) 0 0)
+        × (n ≡ getD (rivals M (x ∷ xs)) 1 0)
+    go none q =
+        let s = ap (λ (r : Option ℕ). leaderOr r (rivals M (x ∷ xs))) q in
+        (q, omega arith, cc, cc)
+    go (some k) q = absurd (false≢true (cc (ap (λ (r : Option ℕ). leaderOr r (rivals M (x ∷ xs))) q)))
+
+pub lookup-leader : (M : Model) (f : ℕ) (args : List ℕ) (m : ℕ) → lookup M f args ≡ found m → Leader M f args m
+unfolding lookup
+lookup-leader M f args m e =
+    let (h, l) = select-found M (applicable M f args) m e in
+    record {
+      candidate = applicable-candidate M f args h;
+      specific = λ n c. leads-all M (applicable M f args) m l n (candidate-applicable M f args c);
+    }
+
+no-candidate : (M : Model) (f : ℕ) (args : List ℕ) → ((m : ℕ) → Candidate M f args m → ⊥) → applicable M f args ≡ []
+no-candidate M f args h = go (applicable M f args) (λ m k. h m (applicable-candidate M f args k))
+  where
+    go : (ms : List ℕ) → ((m : ℕ) → List·Memᴰ m ms → ⊥) → ms ≡ []
+    go [] k = refl
+    go (m ∷ ms) k = absurd (k m (List·Memᴰ·head refl))
+
+-- "None applicable is 10", and nothing else is
+pub lookup-missing : (M : Model) (f : ℕ) (args : List ℕ) → (lookup M f args ≡ missing) ↔ ((m : ℕ) → Candidate M f args m → ⊥)
+unfolding lookup select
+lookup-missing M f args = (
+  λ e m c. List·Memᴰ·not-nil (rw (select-missing M (applicable M f args) e) at (candidate-applicable M f args c)),
+  λ h. rw (no-candidate M f args h),
+)
+
+applicable-rising : (M : Model) (f : ℕ) (args : List ℕ) → Rising (applicable M f args)
+unfolding applicable
+applicable-rising M f args = rising-keep (λ m. eqb (M .function m) f && applies M args m) (upto (M .methods)) (rising-upto (M .methods))
+
+module _ (M : Model) (w : Wellformed M) (f : ℕ) (args : List ℕ) where
+  specific-trans : (a b c : ℕ) → List·Memᴰ a (applicable M f args) → asSpecific M a b ≡ true → asSpecific M b c ≡ true → asSpecific M a c ≡ true
+  unfolding asSpecific
+  specific-trans a b c h =
+      under-trans M w (M .specialisers a) (M .specialisers b) (M .specialisers c)
+      (w .specialisers-present a (applicable-candidate M f args h .bound))
+
+  -- methods of one function with equal specialisers are one method
+  no-twin : (a b : ℕ) → Candidate M f args a → Candidate M f args b → M .specialisers a ≡ M .specialisers b → a ≡ b
+  no-twin a b p q e =
+      let below : ¬ (a < b) = λ l. w .no-twins b a (q .bound) l (q .ofFunction ∙ sym (p .ofFunction)) (sym e) in
+      let above : ¬ (b < a) = λ l. w .no-twins a b (p .bound) l (p .ofFunction ∙ sym (q .ofFunction)) e in
+      omega arith
+
+  specific-antisym : (a b : ℕ) → Candidate M f args a → Candidate M f args b → asSpecific M a b ≡ true → asSpecific M b a ≡ true → a ≡ b
+  unfolding asSpecific
+  specific-antisym a b p q e g =
+      no-twin a b p q
+      (under-antisym M w (M .specialisers a) (M .specialisers b) (w .specialisers-present a (p .bound)) e g)
+
+  pub leader-unique : (m n : ℕ) → Leader M f args m → Leader M f args n → m ≡ n
+  leader-unique m n p q =
+      specific-antisym m n (p .candidate) (q .candidate) (p .specific n (q .candidate)) (q .specific m (p .candidate))
+
+  -- below each candidate stands a rival
+  rival-below : (c : ℕ) → List·Memᴰ c (applicable M f args)
+      → (m : ℕ) × List·Memᴰ m (rivals M (applicable M f args)) × (asSpecific M m c ≡ true)
+  unfolding rivals
+  rival-below c h =
+      let ms = applicable M f args in
+      let r =
+      minimal (asSpecific M) ms (asSpecific-itself M) specific-trans
+      (λ a b p q. specific-antisym a b (applicable-candidate M f args p) (applicable-candidate M f args q)) ms (λ n k. k) c h in
+      (r .least, keep-in (unbeaten M ms) ms (r .member) (alone-unbeaten M ms (r .least) (r .alone)), r .under)
+
+  rival-of : (m : ℕ) → List·Memᴰ m (rivals M (applicable M f args)) → Rival M f args m
+  unfolding rivals
+  rival-of m h =
+      let ms = applicable M f args in
+      let (k, u) = keep-mem (unbeaten M ms) ms h in
+      record {
+        candidate = applicable-candidate M f args k;
+        alone = λ n c d. unbeaten-alone M ms m u n (candidate-applicable M f args c) d;
+      }
+
+  -- one rival alone would lead
+  alone-leads : (m : ℕ) → rivals M (applicable M f args) ≡ m ∷ [] → leads M (applicable M f args) m ≡ true
+  alone-leads m e = all-leads M (applicable M f args) m (λ n k. go n (rival-below n k))
+    where
+      go : (n : ℕ) → (k : ℕ) × List·Memᴰ k (rivals M (applicable M f args)) × (asSpecific M k n ≡ true) → asSpecific M m n ≡ true
+      go n (k, h, s) = rw (sym (List·Memᴰ·eq-of-singleton (rw e at h))) s
+
+  rivals-rising : Rising (rivals M (applicable M f args))
+  unfolding rivals
+  rivals-rising = rising-keep (unbeaten M (applicable M f args)) (applicable M f args) (applicable-rising M f args)
+
+  -- where nothing leads there are two rivals
+  two-rivals : (c : ℕ) → List·Memᴰ c (applicable M f args) → first (leads M (applicable M f args)) (applicable M f args) ≡ none
+      → (a : ℕ) × (b : ℕ) × (rest : List ℕ) × (rivals M (applicable M f args) ≡ a ∷ b ∷ rest)
+  two-rivals c h free = go (rivals M (applicable M f args)) refl (rival-below c h)
+    where
+      go : (rs : List ℕ) → rivals M (applicable M f args) ≡ rs → (k : ℕ) × List·Memᴰ k (rivals M (applicable M f args)) × (asSpecific M k c ≡ true)
+          → (a : ℕ) × (b : ℕ) × (rest : List ℕ) × (rivals M (applicable M f args) ≡ a ∷ b ∷ rest)
+      go [] r (k, m, u) = absurd (List·Memᴰ·not-nil (rw r at m))
+      go (a ∷ []) r low =
+          let m = candidate-applicable M f args (rival-of a (rw r (List·Memᴰ·head refl)) .candidate) in
+          absurd (false≢true (sym (first-none (leads M (applicable M f args)) (applicable M f args) free m) ∙ alone-leads a r))
+      go (a ∷ b ∷ rest) r low = (a, b, rest, r)
+
+  -- "where no such method exists, it is 11, naming the two lowest-numbered …, lower first"
+  pub lookup-rivals : (m n : ℕ) → lookup M f args ≡ ambiguous m n → Rival M f args m × Rival M f args n × (m < n)
+  unfolding lookup
+  lookup-rivals m n e = go (applicable M f args) refl (select-ambiguous M (applicable M f args) m n e)
+    where
+      go : (ms : List ℕ) → applicable M f args ≡ ms
+          → (first (leads M (applicable M f args)) (applicable M f args) ≡ none)
+          × (0 < length (applicable M f args))
+          × (m ≡ getD (rivals M (applicable M f args)) 0 0)
+          × (n ≡ getD (rivals M (applicable M f args)) 1 0)
+          → Rival M f args m × Rival M f args n × (m < n)
+      go [] s (free, one, p, q) = absurd (not-suc-le-zero (rw s at one))
+      go (x ∷ xs) s (free, one, p, q) =
+          let (a, b, rest, r) = two-rivals x (rw s (List·Memᴰ·head refl)) free in
+          let p′ : m ≡ a = rw r at p in
+          let q′ : n ≡ b = rw r at q in
+          let rising = rw r at rivals-rising in (
+            rw p′ (rival-of a (rw r (List·Memᴰ·head refl))),
+            rw q′ (rival-of b (rw r (List·Memᴰ·tail (List·Memᴰ·head refl)))),
+            rw (p′, q′) (rising .0 b (List·Memᴰ·head refl)),
+          )
+
+  -- a leader is what lookup finds
+  pub leader-lookup : (m : ℕ) → Leader M f args m → lookup M f args ≡ found m
+  leader-lookup m l = go (lookup M f args) refl
+    where
+      go : (r : Found) → lookup M f args ≡ r → lookup M f args ≡ found m
+      go (found n) e = e ∙ ap (λ (k : ℕ). found k) (leader-unique n m (lookup-leader M f args n e) l)
+      go missing e = absurd (lookup-missing M f args .0 e m (l .candidate))
+      go (ambiguous a b) e =
+          let (p, q, h) = lookup-rivals a b e in
+          -- m is at least as specific as both rivals, so it is both
+          absurd (both a b p q h)
+        where
+          one : (c : ℕ) → Rival M f args c → Dec (m ≡ c) → m ≡ c
+          one c r (yes s) = s
+          one c r (no d) = absurd (false≢true (sym (r .alone m (l .candidate) d) ∙ l .specific c (r .candidate)))
+
+          both : (a b : ℕ) → Rival M f args a → Rival M f args b → a < b → ⊥
+          both a b p q h =
+              let s = one a p (ℕ-discrete m a) in
+              let t = one b q (ℕ-discrete m b) in
+              omega (arith, s, t)
+
+-- what a method applies to has as many classes as its function has places
+pub candidate-places : (M : Model) → Wellformed M → (f : ℕ) (args : List ℕ) (m : ℕ) → Candidate M f args m → length args ≡ M .arity f
+unfolding applies under
+candidate-places M w f args m c =
+    matching-length (subclass M) args (M .specialisers m) (c .applying)
+    ∙ w .specialiser-places m (c .bound)
+    ∙ ap (M .arity) (c .ofFunction)
+
+-- Narrowing. With no place filled all methods of the function are left; each place filled keeps those whose specialiser there is above the class; with
+-- all places filled the applicable methods are left.
+pub narrow-none : (M : Model) (f : ℕ) → applicableSoFar M f [] ≡ keep (λ m. eqb (M .function m) f) (upto (M .methods))
+unfolding applicableSoFar under matching
+narrow-none M f = keep-agree (λ m. eqb (M .function m) f && true) (λ m. eqb (M .function m) f) (upto (M .methods)) (λ m h. and-true (eqb (M .function m) f))
+
+pub narrow-place : (M : Model) (f : ℕ) (chosen : List ℕ) (a : ℕ)
+    → ((m : ℕ) → m < M .methods → M .function m ≡ f → length chosen < length (M .specialisers m))
+    → keep (λ m. subclass M a (getD (M .specialisers m) (length chosen) 0)) (applicableSoFar M f chosen) ≡ applicableSoFar M f (chosen ++ (a ∷ []))
+unfolding applicableSoFar under
+narrow-place M f chosen a long =
+    keep-keep
+    (λ m. eqb (M .function m) f && under M chosen (take (length chosen) (M .specialisers m)))
+    (λ m. subclass M a (getD (M .specialisers m) (length chosen) 0))
+    (upto (M .methods))
+    ∙ keep-agree
+    (λ m. eqb (M .function m) f && under M chosen (take (length chosen) (M .specialisers m)) && subclass M a (getD (M .specialisers m) (length chosen) 0))
+    (λ m. eqb (M .function m) f && under M (chosen ++ (a ∷ [])) (take (length (chosen ++ (a ∷ []))) (M .specialisers m)))
+    (upto (M .methods))
+    (λ m h. go m (upto-below (M .methods) h) (test (eqb (M .function m) f)))
+  where
+    go : (m : ℕ) → m < M .methods → (eqb (M .function m) f ≡ true) ⊎ (eqb (M .function m) f ≡ false)
+        → (eqb (M .function m) f && under M chosen (take (length chosen) (M .specialisers m)) && subclass M a (getD (M .specialisers m) (length chosen) 0))
+        ≡ (eqb (M .function m) f && under M (chosen ++ (a ∷ [])) (take (length (chosen ++ (a ∷ []))) (M .specialisers m)))
+    go m h (inl q) = rw q (sym (matching-snoc (subclass M) chosen a (M .specialisers m) 0 (long m h (eqb-true (M .function m) f q))))
+    go m h (inr q) = rw q
+
+pub narrow-all : (M : Model) → Wellformed M → (f : ℕ) (args : List ℕ) → length args ≡ M .arity f → applicableSoFar M f args ≡ applicable M f args
+unfolding applicableSoFar applicable applies
+narrow-all M w f args e =
+    keep-agree
+    (λ m. eqb (M .function m) f && under M args (take (length args) (M .specialisers m)))
+    (λ m. eqb (M .function m) f && under M args (M .specialisers m))
+    (upto (M .methods))
+    (λ m h. go m (upto-below (M .methods) h) (test (eqb (M .function m) f)))
+  where
+    go : (m : ℕ) → m < M .methods → (eqb (M .function m) f ≡ true) ⊎ (eqb (M .function m) f ≡ false)
+        → (eqb (M .function m) f && under M args (take (length args) (M .specialisers m))) ≡ (eqb (M .function m) f && under M args (M .specialisers m))
+    go m h (inl q) =
+        let len : length (M .specialisers m) ≡ length args = w .specialiser-places m h ∙ ap (M .arity) (eqb-true (M .function m) f q) ∙ sym e in
+        rw (take-all (length args) (M .specialisers m) (le-of-eq len))
+    go m h (inr q) = rw q

@@ -1,0 +1,117 @@
+-- Subclassing: the test agrees with the paper's relation on the classes of the bundle, and is a partial order there with class 0 at the top.
+-- Assumes nothing.
+use Prim.Native.Nat.{ℕ, zero, suc, _≤_, _<_}
+use native.Mathlib.Nat.{not-suc-le-zero, eq-zero-or-pos}
+use native.Mathlib.Omega.{arith}
+use mathlib.Core.Path.{_≡_, refl, sym, ap, _∙_}
+use mathlib.Core.Bool.{Bool, true, false, _||_, false≢true}
+use mathlib.Core.Logic.{_⊎_, inl, inr}
+use mathlib.Core.List.{List, [], _∷_, List·Memᴰ, List·Memᴰ·head, List·Memᴰ·tail}
+use lib.Dec.{eqb, ltb}
+use lib.ListN.{length}
+use borrow.Author.Tests.{eqb-true, eq-eqb, ltb-true, lt-ltb}
+use Rattle.rules.specs.Bounded.{any, every, matching}
+use Rattle.rules.specs.Model.{Model, Wellformed, present}
+use Rattle.rules.specs.Subclass.{Under, itself, parent, subclassWithin, subclass, under}
+use Rattle.rules.proofs.Lists.{or-cases, or-left, or-right, any-mem, any-from, every-mem, matching-refl, matching-trans, matching-antisym}
+
+-- composed paths
+pub under-compose : {M : Model} {a b c : ℕ} → Under M a b → Under M b c → Under M a c
+under-compose itself v = v
+under-compose (parent m u) v = parent m (under-compose u v)
+
+pub within-under : (M : Model) (n a b : ℕ) → subclassWithin M n a b ≡ true → Under M a b
+unfolding subclassWithin
+within-under M zero a b e = rw (eqb-true a b e) itself
+within-under M (suc n) a b e = go (or-cases (eqb a b) (any (λ p. subclassWithin M n p b) (M .parents a)) e) (λ p r. within-under M n p b r)
+  where
+    go : (eqb a b ≡ true) ⊎ (any (λ p. subclassWithin M n p b) (M .parents a) ≡ true) → ((p : ℕ) → subclassWithin M n p b ≡ true → Under M p b) → Under M a b
+    go (inl q) rest = rw (eqb-true a b q) itself
+    go (inr q) rest = let (p, m, r) = any-mem (λ p. subclassWithin M n p b) (M .parents a) q in parent m (rest p r)
+
+pub within-itself : (M : Model) (n a : ℕ) → subclassWithin M n a a ≡ true
+unfolding subclassWithin
+within-itself M zero a = eq-eqb a a refl
+within-itself M (suc n) a = or-left (eqb a a) (any (λ p. subclassWithin M n p a) (M .parents a)) (eq-eqb a a refl)
+
+within-parent : (M : Model) (n a b p : ℕ) → List·Memᴰ p (M .parents a) → subclassWithin M n p b ≡ true → subclassWithin M (suc n) a b ≡ true
+unfolding subclassWithin
+within-parent M n a b p m e =
+    or-right (eqb a b) (any (λ p. subclassWithin M n p b) (M .parents a)) (any-from (λ p. subclassWithin M n p b) (M .parents a) m e)
+
+pub subclass-under : (M : Model) (a b : ℕ) → subclass M a b ≡ true → Under M a b
+unfolding subclass
+subclass-under M a b e = within-under M (M .classes) a b e
+
+pub subclass-itself : (M : Model) (a : ℕ) → subclass M a a ≡ true
+unfolding subclass
+subclass-itself M a = within-itself M (M .classes) a
+
+pub under-itself : (M : Model) (xs : List ℕ) → under M xs xs ≡ true
+unfolding under
+under-itself M xs = matching-refl (subclass M) xs (λ a m. subclass-itself M a)
+
+module _ (M : Model) (w : Wellformed M) where
+  pub parent-lower : {c p : ℕ} → c < M .classes → List·Memᴰ p (M .parents c) → p < c
+  parent-lower {c} {p} h m = ltb-true p c (every-mem (λ p. ltb p c) (M .parents c) (w .parents-lower c h) m)
+
+  -- each step goes to a lower number, so a's number of steps is enough
+  under-within : {a b : ℕ} (n : ℕ) → a < M .classes → a ≤ n → Under M a b → subclassWithin M n a b ≡ true
+  under-within {a} n h k itself = within-itself M n a
+  under-within {a} {b} zero h k (parent m u) = let l = parent-lower h m in absurd (omega (arith, l))
+  under-within {a} {b} (suc n) h k (parent {p = p} m u) =
+      let l = parent-lower h m in
+      within-parent M n a b p m (under-within n (omega (arith, l)) (omega (arith, l)) u)
+
+  pub under-subclass : (a b : ℕ) → a < M .classes → Under M a b → subclass M a b ≡ true
+  unfolding subclass
+  under-subclass a b h u = under-within (M .classes) h (omega arith) u
+
+  under-not-above : {a b : ℕ} → a < M .classes → Under M a b → b ≤ a
+  under-not-above h itself = omega arith
+  under-not-above {a} {b} h (parent {p = p} m u) =
+      let l = parent-lower h m in
+      let k : b ≤ p = under-not-above (omega (arith, l)) u in
+      omega (arith, l)
+
+  -- a superclass has no higher number, so it is a class of the bundle too
+  pub subclass-not-above : (a b : ℕ) → a < M .classes → subclass M a b ≡ true → b ≤ a
+  subclass-not-above a b h e = under-not-above h (subclass-under M a b e)
+
+  pub subclass-trans : (a b c : ℕ) → a < M .classes → subclass M a b ≡ true → subclass M b c ≡ true → subclass M a c ≡ true
+  subclass-trans a b c h e f = under-subclass a c h (under-compose (subclass-under M a b e) (subclass-under M b c f))
+
+  pub subclass-antisym : (a b : ℕ) → a < M .classes → subclass M a b ≡ true → subclass M b a ≡ true → a ≡ b
+  subclass-antisym a b h e f =
+      let p = subclass-not-above a b h e in
+      let q = subclass-not-above b a (omega (arith, p)) f in
+      omega (arith, p, q)
+
+  pub present-below : {xs : List ℕ} {a : ℕ} → present M xs ≡ true → List·Memᴰ a xs → a < M .classes
+  unfolding present
+  present-below {xs} {a} e m = ltb-true a (M .classes) (every-mem (λ c. ltb c (M .classes)) xs e m)
+
+  pub under-trans : (xs ys zs : List ℕ) → present M xs ≡ true → under M xs ys ≡ true → under M ys zs ≡ true → under M xs zs ≡ true
+  unfolding under
+  under-trans xs ys zs h e f =
+      matching-trans (subclass M) (subclass M) (subclass M) xs ys zs (λ a b c m. subclass-trans a b c (present-below h m)) e f
+
+  pub under-antisym : (xs ys : List ℕ) → present M xs ≡ true → under M xs ys ≡ true → under M ys xs ≡ true → xs ≡ ys
+  unfolding under
+  under-antisym xs ys h e f = matching-antisym (subclass M) xs ys (λ a b m n. subclass-antisym a b (present-below h m)) e f
+
+  -- "Every class is under class 0": each class but 0 has a parent, and parents are lower
+  root-within : (n a : ℕ) → a < M .classes → a ≤ n → Under M a 0
+  root-within zero a h k = let z : a ≡ 0 = omega arith in rw z itself
+  root-within (suc n) a h k = go (eq-zero-or-pos a) (M .parents a) refl (λ p r l. root-within n p r l)
+    where
+      go : (a ≡ 0) ⊎ (0 < a) → (ps : List ℕ) → M .parents a ≡ ps → ((p : ℕ) → p < M .classes → p ≤ n → Under M p 0) → Under M a 0
+      go (inl z) ps e rest = rw z itself
+      go (inr z) [] e rest = let l = w .parents-some a h z in absurd (not-suc-le-zero (rw e at l))
+      go (inr z) (p ∷ ps) e rest =
+          let m : List·Memᴰ p (M .parents a) = rw e (List·Memᴰ·head refl) in
+          let l = parent-lower h m in
+          parent m (rest p (omega (arith, l)) (omega (arith, l)))
+
+  pub subclass-root : (a : ℕ) → a < M .classes → subclass M a 0 ≡ true
+  subclass-root a h = under-subclass a 0 h (root-within a a h (omega arith))

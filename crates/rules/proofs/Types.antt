@@ -1,0 +1,86 @@
+-- Static types: the type of a send holds what the result class of some licensing signature is under, and is the greatest lower bound of those results.
+-- Assumes nothing.
+use Prim.Native.Nat.{ℕ, _<_}
+use mathlib.Core.Path.{_≡_, refl, sym, ap, _∙_}
+use mathlib.Core.Bool.{Bool, true, false, _&&_, _||_}
+use mathlib.Core.Logic.{_↔_}
+use mathlib.Core.List.{List, [], _∷_, map, List·Memᴰ, List·Memᴰ·head, Memᴰ·map, Memᴰ·of-map}
+use lib.Dec.{eqb}
+use borrow.Author.Tests.{eqb-true, eq-eqb}
+use Rattle.rules.specs.Bounded.{upto, any, keep}
+use Rattle.rules.specs.Model.{Model}
+use Rattle.rules.specs.Subclass.{subclass}
+use Rattle.rules.specs.Types.{Static, inType, licenses, licensing, sendType}
+use Rattle.rules.proofs.Lists.{and-left, and-right, and-both, any-mem, any-from, keep-mem, keep-in, upto-below, below-upto}
+
+-- signature s licenses a send of f with arguments of these types
+pub record Licence (M : Model) (f : ℕ) (types : List Static) (s : ℕ) : Type 0 where
+  pub present : s < M .signatures
+  pub ofFunction : M .sigFunction s ≡ f
+  pub licensed : licenses M types s ≡ true
+
+pub licensing-licence : (M : Model) (f : ℕ) (types : List Static) {s : ℕ} → List·Memᴰ s (licensing M f types) → Licence M f types s
+unfolding licensing
+licensing-licence M f types {s} h =
+    let (m, e) = keep-mem (λ s. eqb (M .sigFunction s) f && licenses M types s) (upto (M .signatures)) h in
+    record {
+      present = upto-below (M .signatures) m;
+      ofFunction = eqb-true (M .sigFunction s) f (and-left (eqb (M .sigFunction s) f) (licenses M types s) e);
+      licensed = and-right (eqb (M .sigFunction s) f) (licenses M types s) e;
+    }
+
+pub licence-licensing : (M : Model) (f : ℕ) (types : List Static) {s : ℕ} → Licence M f types s → List·Memᴰ s (licensing M f types)
+unfolding licensing
+licence-licensing M f types {s} l =
+    keep-in (λ s. eqb (M .sigFunction s) f && licenses M types s) (upto (M .signatures)) (below-upto (M .signatures) s (l .present))
+    (and-both (eqb (M .sigFunction s) f) (licenses M types s) (eq-eqb (M .sigFunction s) f (l .ofFunction)) (l .licensed))
+
+-- each class that generates the type of a send is the result of a licensing signature, and back
+pub result-licence : (M : Model) (f : ℕ) (types : List Static) {c : ℕ} → List·Memᴰ c (sendType M f types)
+    → (s : ℕ) × Licence M f types s × (M .sigResult s ≡ c)
+unfolding sendType
+result-licence M f types h =
+    let (s, m, e) = Memᴰ·of-map (M .sigResult) (licensing M f types) h in
+    (s, licensing-licence M f types m, e)
+
+pub licence-result : (M : Model) (f : ℕ) (types : List Static) {s : ℕ} → Licence M f types s → List·Memᴰ (M .sigResult s) (sendType M f types)
+unfolding sendType
+licence-result M f types l = Memᴰ·map (M .sigResult) (licence-licensing M f types l)
+
+-- "the union over all licensing signatures of their result classes' types"
+pub send-type-union : (M : Model) (f : ℕ) (types : List Static) (b : ℕ)
+    → (inType M (sendType M f types) b ≡ true) ↔ ((s : ℕ) × Licence M f types s × (subclass M (M .sigResult s) b ≡ true))
+unfolding inType
+send-type-union M f types b = (
+  λ e. let (c, m, u) = any-mem (λ g. subclass M g b) (sendType M f types) e in
+      let (s, l, q) = result-licence M f types m in
+      (s, l, rw q u),
+  λ r. any-from (λ g. subclass M g b) (sendType M f types) (licence-result M f types (r .1)) (r .2),
+)
+
+-- one type is below another when it has all the other's classes: a value of the one is a value of the other
+pub record Below (M : Model) (t u : Static) : Type 0 where
+  pub has : (b : ℕ) → inType M u b ≡ true → inType M t b ≡ true
+
+-- "the report's greatest lower bound": the send's type is below each licensing signature's result, and each type below all of these is below it
+pub send-type-lower : (M : Model) (f : ℕ) (types : List Static) (s : ℕ) → Licence M f types s → Below M (sendType M f types) (M .sigResult s ∷ [])
+unfolding inType any
+send-type-lower M f types s l =
+    record {
+      has = λ b e.
+          send-type-union M f types b .1 (s, l, one (subclass M (M .sigResult s) b) e);
+    }
+  where
+    one : (t : Bool) → (t || false) ≡ true → t ≡ true
+    one true e = refl
+    one false e = e
+
+pub send-type-greatest : (M : Model) (f : ℕ) (types : List Static) (t : Static)
+    → ((s : ℕ) → Licence M f types s → Below M t (M .sigResult s ∷ [])) → Below M t (sendType M f types)
+unfolding inType
+send-type-greatest M f types t h =
+    record {
+      has = λ b e.
+          let (s, l, u) = send-type-union M f types b .0 e in
+          h s l .has b (any-from (λ g. subclass M g b) (M .sigResult s ∷ []) (List·Memᴰ·head refl) u);
+    }
