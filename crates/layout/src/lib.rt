@@ -2,4 +2,6 @@
 pub mod bundle;
 pub mod bytes;
 pub mod directory;
+pub mod field;
+pub mod instruction;
 pub mod record;
