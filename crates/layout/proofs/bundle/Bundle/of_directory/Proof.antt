@@ -1,0 +1,62 @@
+-- `layout::bundle::Bundle::of_directory` meets its contract: each number is that of its counted section.
+-- Assumes nothing.
+use borrow.Author.Needs.{needs}
+use native.Mathlib.Nat.{div-one}
+use mathlib.Core.Path.{_∙_}
+use Rattle.rules.specs.Layout.{classCount, functionCount, signatureCount, methodCount}
+use Rattle.layout.proofs.bundle.Bundle.of_directory.Statement.{statement}
+use Rattle.layout.proofs.bundle.Bundle.of_directory.Tie as tie
+
+counted-requires : tie.Need-counted-requires
+counted-requires c κs = search needs
+
+counted-requires-2 : tie.Need-counted-requires-2
+counted-requires-2 c κs = search needs
+
+counted-requires-3 : tie.Need-counted-requires-3
+counted-requires-3 c κs = search needs
+
+counted-requires-4 : tie.Need-counted-requires-4
+counted-requires-4 c κs = search needs
+
+counted-requires-5 : tie.Need-counted-requires-5
+counted-requires-5 c κs = search needs
+
+counted-requires-6 : tie.Need-counted-requires-6
+counted-requires-6 c κs = search needs
+
+returns : tie.Need-returns
+unfolding classCount functionCount signatureCount methodCount
+returns c =
+    let code = c .counted6 .ensures in
+    let methods = c .before .counted5 .ensures in
+    let signatures = c .before .before .counted4 .ensures in
+    let functions = c .before .before .before .counted3 .ensures in
+    let parents = c .before .before .before .before .counted2 .ensures in
+    let classes = c .before .before .before .before .before .counted .ensures in
+    record {
+      classes = classes .records;
+      functions = functions .records ∙ div-one _;
+      signatures = signatures .records;
+      methods = methods .records;
+      class-at = classes .place;
+      parent-at = parents .place;
+      function-at = functions .place;
+      signature-at = signatures .place;
+      method-at = methods .place;
+      code-at = code .place;
+      parent-len = parents .records ∙ div-one _;
+      code-len = code .records ∙ div-one _;
+    }
+
+pub of-directory-spec : {M : Type 1} → statement M
+of-directory-spec =
+    tie.close
+    (tie.spec
+    counted-requires
+    counted-requires-2
+    counted-requires-3
+    counted-requires-4
+    counted-requires-5
+    counted-requires-6
+    returns)

@@ -1,0 +1,20 @@
+-- `layout::field::function` meets its contract: opening refuses a method of no function.
+-- Assumes nothing.
+use native.Mathlib.Omega.{arith}
+use Rattle.rules.specs.Model.{modelOf}
+use Rattle.layout.proofs.Opened.{placed-of, counts-of, wellformed-of}
+use Rattle.layout.proofs.field.function.Statement.{statement}
+use Rattle.layout.proofs.field.function.Tie as tie
+
+method-function-requires : tie.Need-method-function-requires
+method-function-requires c κs = let s = c .before in (placed-of (s .pre .0), s .pre .1)
+
+returns : tie.Need-returns
+unfolding modelOf
+returns c =
+    let s = c .before .before in
+    let counts = counts-of (s .pre .0) in
+    (c .method-function .ensures, omega (arith, wellformed-of (s .pre .0) .function-present (s .args .m) (omega arith)))
+
+pub function-spec : {M : Type 1} → statement M
+function-spec = tie.close (tie.spec method-function-requires returns)

@@ -1,0 +1,10 @@
+-- The instruction of the rules that one of the code stands for.
+-- Assumes nothing.
+use Rattle.rules.specs.Model.{Instr, arg, new, send}
+use Rattle.layout.specs.declared.instruction.Instruction.{Instruction}
+use Rattle.layout.specs.declared.instruction.Instruction.the-variants.{Arg, New, Send}
+
+unfoldable pub instr : Instruction → Instr
+instr (Arg place) = arg place
+instr (New class) = new class
+instr (Send function) = send function

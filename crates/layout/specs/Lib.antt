@@ -1,0 +1,5 @@
+pub mod Tests
+pub mod Tables
+pub mod Opened
+pub mod Instruction
+pub mod Bodies

@@ -1,0 +1,7 @@
+// The opened bundle: its directory, the rules of its records, and a reader for each field of a record.
+pub mod bundle;
+pub mod bytes;
+pub mod directory;
+pub mod field;
+pub mod instruction;
+pub mod record;
