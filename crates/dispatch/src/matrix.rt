@@ -4,15 +4,12 @@ use layout::bundle::Bundle;
 use layout::field::parent;
 use layout::field::parent_count;
 ghost use mathlib.Core.Path.{_≡_};
-ghost use mathlib.Core.Bool.{true};
 ghost use Prim.Native.Nat.{_+_, _*_, _<_, _≤_};
 ghost use lib.ListN.{length};
-ghost use Rattle.rules.specs.Bounded.{any};
 ghost use Rattle.rules.specs.Model.{modelOf};
-ghost use Rattle.rules.specs.Subclass.{subclass};
 ghost use Rattle.rules.specs.Calls.{scratchBytes, rowBytes, overwrite, matrixByte};
 ghost use Rattle.layout.specs.Opened.{Opened};
-ghost use Rattle.dispatch.specs.Matrix.{FilledTo, Answers};
+ghost use Rattle.dispatch.specs.Matrix.{FilledTo, Answers, inherited};
 
 // The classes of a row, and the bytes of the matrix.
 pub const ROW: usize = 128;
@@ -25,7 +22,7 @@ fn inherits(bytes: &[u8], b: Bundle, scratch: &[u8], a: usize, c: usize) -> bool
     requires { ⌜ a < b .classes ⌝ }
     requires { ⌜ c < b .classes ⌝ }
     requires { ⌜ FilledTo (modelOf (now bytes)) (now scratch) (rowBytes * a) ⌝ }
-    ensures { λ r. ⌜ r ≡ any (λ p. subclass (modelOf (now (bytes .entry))) p c) (modelOf (now (bytes .entry)) .parents a) ⌝ }
+    ensures { λ r. ⌜ r ≡ inherited (modelOf (now (bytes .entry))) a c ⌝ }
 {
     let n = parent_count(bytes, b, a);
     let mut i = 0;
