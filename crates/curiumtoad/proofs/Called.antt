@@ -4,18 +4,23 @@ use Prim.Native.Nat.{ℕ, _≤_, _<_}
 use mathlib.Core.Path.{_≡_, refl, sym, _∙_}
 use mathlib.Core.Bool.{Bool, true, false}
 use mathlib.Core.List.{List, [], _∷_}
-use lib.Dec.{ltb}
-use lib.ListN.{getD}
-use borrow.Author.Tests.{lt-ltb, le-ltb}
+use lib.Dec.{leb, ltb}
+use lib.ListN.{length, getD}
+use borrow.Author.Tests.{lt-ltb, le-ltb, le-leb, lt-leb}
 use Rattle.rules.specs.Layout.{Answer, gives, refuses, opening, require, codeOf}
 use Rattle.rules.specs.Model.{Model, modelOf}
-use Rattle.rules.specs.Calls.{onOpening, whenOpen, bodyViewCall}
+use Rattle.rules.specs.Calls.{scratchBytes, onOpening, whenOpen, withScratch, bodyViewCall, overwrite, matrixByte, scratchOn, scratchAfter}
 use Rattle.layout.specs.declared.finding.LayoutFinding.{LayoutFinding}
 use Rattle.layout.specs.declared.finding.LayoutFinding.the-variants as finding
 use Rattle.layout.specs.declared.finding.Opening.the-variants as answer
 use Rattle.layout.specs.declared.bundle.Bundle.{Bundle}
 use Rattle.layout.specs.Opening.{said, saidOf, Opens}
+use Rattle.layout.specs.Opened as layout-opened
 use Rattle.layout.proofs.Opened.{counts-of, opened-of}
+use Rattle.curiumtoad.specs.declared.refusal.Refusal.{Refusal}
+use Rattle.curiumtoad.specs.declared.refusal.Refusal.the-variants as refusal
+use Rattle.curiumtoad.specs.declared.prepare.Prepared.the-variants as prepared
+use Rattle.curiumtoad.specs.Prepared.{Prepares, refusalSaid}
 use Rattle.curiumtoad.specs.Refusal.{numberOf, valuesOf, recordOf}
 
 module _ {A : Type 0} (b : List ℕ) (call : Model → Answer A) where
@@ -34,6 +39,10 @@ module _ {A : Type 0} (b : List ℕ) (call : Model → Answer A) where
       carried (finding.Method k) = refl
       carried (finding.Twin k) = refl
       carried (finding.Code k) = refl
+
+  pub opened-call : (counts : List ℕ) → opening b ≡ gives counts → whenOpen b call ≡ call (modelOf b)
+  unfolding whenOpen onOpening
+  opened-call counts e = rw e
 
   pub when-opened : {t : Bundle} → Opens b (answer.Opened t) → whenOpen b call ≡ call (modelOf b)
   unfolding whenOpen onOpening
@@ -68,3 +77,45 @@ module _ (b : List ℕ) (m : ℕ) where
   view-given o h =
       when-opened b (λ M. require (ltb m (M .methods)) 18 (gives (codeOf b m))) o
       ∙ rw (lt-ltb m (modelOf b .methods) (rw (sym (counts-of (opened-of o) .methods)) h))
+
+-- The scratch: as it was where the bundle does not open or the scratch is short, else the matrix.
+pub scratch-refused : (b scratch : List ℕ) (f : LayoutFinding) → saidOf f ≡ opening b → scratchAfter b scratch ≡ scratch
+unfolding scratchAfter scratchOn
+scratch-refused b scratch f o = rw (sym o) (kept f)
+  where
+    kept : (f : LayoutFinding) → scratchOn (saidOf f) (modelOf b) scratch ≡ scratch
+    kept finding.Size = refl
+    kept finding.Directory = refl
+    kept finding.Limits = refl
+    kept (finding.Class k) = refl
+    kept (finding.Function k) = refl
+    kept (finding.Signature k) = refl
+    kept (finding.Method k) = refl
+    kept (finding.Twin k) = refl
+    kept (finding.Code k) = refl
+
+pub scratch-short : (b scratch counts : List ℕ) → opening b ≡ gives counts → length scratch < scratchBytes → scratchAfter b scratch ≡ scratch
+unfolding scratchAfter scratchOn
+scratch-short b scratch counts o h = rw (o, lt-leb scratchBytes (length scratch) h)
+
+pub scratch-filled : (b scratch counts : List ℕ) → opening b ≡ gives counts → scratchBytes ≤ length scratch
+    → scratchAfter b scratch ≡ overwrite scratchBytes (matrixByte (modelOf b)) scratch
+unfolding scratchAfter scratchOn
+scratch-filled b scratch counts o h = rw (o, le-leb scratchBytes (length scratch) h)
+
+-- A call that takes scratch: its refusal, or its own rules.
+module _ {A : Type 0} (b scratch : List ℕ) (call : Model → Answer A) where
+  pub not-prepared : (r : Refusal) → Prepares b scratch (prepared.Refused r) → withScratch b (length scratch) call ≡ refusalSaid r
+  unfolding withScratch require
+  not-prepared (refusal.Layout f) o = not-opened b (λ M. require (leb scratchBytes (length scratch)) 19 (call M)) f (record { answer = o; tables = tt })
+  not-prepared refusal.Scratch (counts, o, h) =
+      opened-call b (λ M. require (leb scratchBytes (length scratch)) 19 (call M)) counts o
+      ∙ rw (lt-leb scratchBytes (length scratch) h)
+  not-prepared refusal.Row o = absurd o
+  not-prepared refusal.Absent o = absurd o
+
+  pub when-prepared : {t : Bundle} → Prepares b scratch (prepared.Ready t) → withScratch b (length scratch) call ≡ call (modelOf b)
+  unfolding withScratch require
+  when-prepared (layout-opened.opened counts e tables, h) =
+      opened-call b (λ M. require (leb scratchBytes (length scratch)) 19 (call M)) counts e
+      ∙ rw (le-leb scratchBytes (length scratch) h)
