@@ -1,0 +1,88 @@
+-- What the loops of lookup show: `under` asked of a filled scratch, and the tests of the rules over places and over lists of methods.
+-- Assumes nothing.
+use Prim.Native.Nat.{ℕ, _≤_, _<_}
+use native.Mathlib.Omega.{arith}
+use mathlib.Core.Path.{_≡_, sym, ap, ap₂, _∙_}
+use mathlib.Core.Bool.{Bool, true, false, true≢false}
+use mathlib.Core.List.{List}
+use lib.Dec.{ltb}
+use lib.ListN.{length, getD, take}
+use lib.Seq.{getD-take, length-take-le}
+use borrow.Author.Tests.{ltb-true}
+use Rattle.rules.specs.Bounded.{every, matching}
+use Rattle.rules.specs.Layout.{places}
+use Rattle.rules.specs.Model.{Model, Wellformed, modelOf, present}
+use Rattle.rules.specs.Subclass.{subclass, under}
+use Rattle.rules.specs.Lookup.{applies, asSpecific}
+use Rattle.rules.specs.Calls.{scratchBytes, rowBytes}
+use Rattle.rules.proofs.Lists.{every-place, matching-from, matching-at}
+use Rattle.layout.specs.Opened.{Opened}
+use Rattle.layout.specs.declared.bundle.Bundle.{Bundle}
+use Rattle.layout.proofs.Opened.{wellformed-of, counts-of}
+use Rattle.layout.proofs.Judged.{Judged, refuted}
+use Rattle.dispatch.specs.Matrix.{Filled, filled, Answers}
+
+filled-long : {M : Model} {s : List ℕ} → Filled M s → scratchBytes ≤ length s
+filled-long (filled f) = f .long
+
+module _ {b : List ℕ} {t : Bundle} (o : Opened b t) where
+  -- what `under` requires of two classes of the bundle
+  pub asked : {s : List ℕ} → Filled (modelOf b) s → (a c : ℕ) → a < t .classes → c < t .classes
+      → (scratchBytes ≤ length s) × ((a < rowBytes) × (c < rowBytes))
+  asked f a c p q =
+      let counts = counts-of o in
+      let limit = wellformed-of o .classes-limit in
+      (filled-long f, (omega arith, omega arith))
+
+  -- and what it gives
+  pub answered : {s : List ℕ} {a c : ℕ} {r : Bool} → Filled (modelOf b) s → Answers s a c r → a < t .classes → c < t .classes
+      → {x y : ℕ} → a ≡ x → c ≡ y → r ≡ subclass (modelOf b) x y
+  answered f u p q e g =
+      let counts = counts-of o in
+      u .answer (modelOf b) f (omega arith) (omega arith) ∙ ap₂ (subclass (modelOf b)) e g
+
+  -- a method has no more places than the layout
+  pub method-places : (m : ℕ) → m < t .methods → modelOf b .arity (modelOf b .function m) ≤ places
+  method-places m h =
+      let w = wellformed-of o in
+      w .arity-limit (modelOf b .function m) (w .function-present m (omega (arith, counts-of o)))
+
+  -- the argument at a place is a class of the bundle
+  pub argument-below : (n : ℕ) (args : List ℕ) → n ≤ length args → present (modelOf b) (take n args) ≡ true → (i : ℕ) → i < n
+      → getD args i 0 < t .classes
+  unfolding present
+  argument-below n args h e i l =
+      let counts = counts-of o in
+      let same = getD-take n args i 0 l in
+      let long = length-take-le n args h in
+      let below = every-place (λ c. ltb c (modelOf b .classes)) (take n args) 0 e i (omega arith) in
+      omega (arith, ltb-true (getD (take n args) i 0) (modelOf b .classes) below)
+
+-- classes by their places: each is under the other's
+under-judged : (M : Model) (xs ys : List ℕ) (n : ℕ) → length xs ≡ n → length ys ≡ n
+    → Judged (under M xs ys) (λ i. subclass M (getD xs i 0) (getD ys i 0)) n
+unfolding under
+under-judged M xs ys n p q =
+    record {
+      holds = λ all. matching-from (subclass M) xs ys 0 0 (p ∙ sym q) (λ i l. all i (omega arith));
+      breaks = λ i l e. refuted (matching (subclass M) xs ys) (λ t. true≢false (sym (matching-at (subclass M) xs ys 0 0 t i (omega arith)) ∙ e));
+    }
+
+module _ {b : List ℕ} {t : Bundle} (o : Opened b t) where
+  pub specific-judged : (m k n : ℕ) → m < t .methods → k < t .methods
+      → n ≡ modelOf b .arity (modelOf b .function m) → n ≡ modelOf b .arity (modelOf b .function k)
+      → Judged (asSpecific (modelOf b) m k) (λ i. subclass (modelOf b) (getD (modelOf b .specialisers m) i 0) (getD (modelOf b .specialisers k) i 0)) n
+  unfolding asSpecific
+  specific-judged m k n p q e g =
+      let counts = counts-of o in
+      let w = wellformed-of o in
+      under-judged (modelOf b) (modelOf b .specialisers m) (modelOf b .specialisers k) n
+      (w .specialiser-places m (omega arith) ∙ sym e) (w .specialiser-places k (omega arith) ∙ sym g)
+
+  pub applies-judged : (n : ℕ) (args : List ℕ) (m : ℕ) → m < t .methods → n ≡ modelOf b .arity (modelOf b .function m) → n ≤ length args
+      → Judged (applies (modelOf b) (take n args) m) (λ i. subclass (modelOf b) (getD (take n args) i 0) (getD (modelOf b .specialisers m) i 0)) n
+  unfolding applies
+  applies-judged n args m p e h =
+      let counts = counts-of o in
+      under-judged (modelOf b) (take n args) (modelOf b .specialisers m) n (length-take-le n args h)
+      (wellformed-of o .specialiser-places m (omega arith) ∙ sym e)
