@@ -3,24 +3,25 @@
 use Prim.Native.Nat.{ℕ, _≤_, _<_}
 use native.Mathlib.Omega.{arith}
 use mathlib.Core.Path.{_≡_, sym, ap, ap₂, _∙_}
-use mathlib.Core.Bool.{Bool, true, false, true≢false}
+use mathlib.Core.Bool.{Bool, true, false, not, _&&_, _||_, true≢false}
 use mathlib.Core.List.{List}
-use lib.Dec.{ltb}
+use lib.Dec.{ltb, eqb}
 use lib.ListN.{length, getD, take}
 use lib.Seq.{getD-take, length-take-le}
-use borrow.Author.Tests.{ltb-true}
+use borrow.Author.Tests.{ltb-true, eqb-true}
 use Rattle.rules.specs.Bounded.{every, matching}
 use Rattle.rules.specs.Layout.{places}
 use Rattle.rules.specs.Model.{Model, Wellformed, modelOf, present}
 use Rattle.rules.specs.Subclass.{subclass, under}
-use Rattle.rules.specs.Lookup.{applies, asSpecific}
+use Rattle.rules.specs.Lookup.{applies, asSpecific, leads, unbeaten}
 use Rattle.rules.specs.Calls.{scratchBytes, rowBytes}
-use Rattle.rules.proofs.Lists.{every-place, matching-from, matching-at}
+use Rattle.rules.proofs.Lists.{and-left, and-right, every-place, every-places, every-broken, matching-from, matching-at}
 use Rattle.layout.specs.Opened.{Opened}
 use Rattle.layout.specs.declared.bundle.Bundle.{Bundle}
 use Rattle.layout.proofs.Opened.{wellformed-of, counts-of}
 use Rattle.layout.proofs.Judged.{Judged, refuted}
 use Rattle.dispatch.specs.Matrix.{Filled, filled, Answers}
+use Rattle.dispatch.specs.Listed.{methodOf, Listed, listed}
 
 filled-long : {M : Model} {s : List ℕ} → Filled M s → scratchBytes ≤ length s
 filled-long (filled f) = f .long
@@ -86,3 +87,39 @@ module _ {b : List ℕ} {t : Bundle} (o : Opened b t) where
       let counts = counts-of o in
       under-judged (modelOf b) (take n args) (modelOf b .specialisers m) n (length-take-le n args h)
       (wellformed-of o .specialiser-places m (omega arith) ∙ sym e)
+
+-- a list's first elements by their places
+module _ (list : List ℕ) (count : ℕ) (h : count ≤ length list) where
+  every-judged : (p : ℕ → Bool) → Judged (every p (take count list)) (λ i. p (getD list i 0)) count
+  every-judged p =
+      let long = length-take-le count list h in
+      record {
+        holds = λ all. every-places p (take count list) 0 (λ i l. rw (getD-take count list i 0 (omega arith)) (all i (omega arith)));
+        breaks = λ i l e. every-broken p (take count list) 0 i (omega arith) (rw (getD-take count list i 0 l) e);
+      }
+
+  pub unbeaten-judged : (M : Model) (m : ℕ)
+      → Judged (unbeaten M (take count list) m) (λ i. eqb (getD list i 0) m || not (asSpecific M (getD list i 0) m)) count
+  unfolding unbeaten
+  unbeaten-judged M m = every-judged (λ n. eqb n m || not (asSpecific M n m))
+
+  pub leads-judged : (M : Model) (m : ℕ)
+      → Judged (leads M (take count list) m) (λ i. eqb (getD list i 0) m || asSpecific M m (getD list i 0)) count
+  unfolding leads
+  leads-judged M m = every-judged (λ n. eqb n m || asSpecific M m n)
+
+  listed-method : (M : Model) (f : ℕ) → Listed M f (take count list) → (i : ℕ) → i < count → methodOf M f (getD list i 0) ≡ true
+  listed-method M f (listed e) i l =
+      let long = length-take-le count list h in
+      rw (getD-take count list i 0 l) at (every-place (methodOf M f) (take count list) 0 e i (omega arith))
+
+  -- each of a list of methods of a function is one
+  pub listed-at : {b : List ℕ} {t : Bundle} → Opened b t → (f : ℕ) → Listed (modelOf b) f (take count list) → (i : ℕ) → i < count
+      → (getD list i 0 < t .methods) × (modelOf b .function (getD list i 0) ≡ f)
+  unfolding methodOf
+  listed-at {b} o f ms i l =
+      let m = getD list i 0 in
+      let e = listed-method (modelOf b) f ms i l in
+      let counts = counts-of o in
+      let below = ltb-true m (modelOf b .methods) (and-left (ltb m (modelOf b .methods)) (eqb (modelOf b .function m) f) e) in
+      (omega arith, eqb-true (modelOf b .function m) f (and-right (ltb m (modelOf b .methods)) (eqb (modelOf b .function m) f) e))
