@@ -48,6 +48,10 @@ module _ {b : List ℕ} {t : Bundle} (o : Opened b t) where
       let w = wellformed-of o in
       w .arity-limit (modelOf b .function m) (w .function-present m (omega (arith, counts-of o)))
 
+  -- a method of a function has as many places as the function
+  pub of-arity : {f n : ℕ} (m : ℕ) → n ≡ modelOf b .arity f → modelOf b .function m ≡ f → n ≡ modelOf b .arity (modelOf b .function m)
+  of-arity m e q = e ∙ sym (ap (modelOf b .arity) q)
+
   -- the argument at a place is a class of the bundle
   pub argument-below : (n : ℕ) (args : List ℕ) → n ≤ length args → present (modelOf b) (take n args) ≡ true → (i : ℕ) → i < n
       → getD args i 0 < t .classes

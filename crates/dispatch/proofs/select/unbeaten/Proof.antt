@@ -7,10 +7,11 @@ use mathlib.Core.Bool.{true, not, _||_}
 use lib.Dec.{eqb}
 use lib.ListN.{getD, take}
 use borrow.Author.Count.{below-none, below-more}
+use borrow.Author.Tests.{eq-eqb, ne-eqb}
 use Rattle.rules.specs.Model.{modelOf}
 use Rattle.rules.specs.Lookup.{asSpecific}
 use Rattle.rules.proofs.Lists.{or-left, or-right, or-none}
-use Rattle.dispatch.proofs.Asked.{listed-at, unbeaten-judged}
+use Rattle.dispatch.proofs.Asked.{of-arity, listed-at, unbeaten-judged}
 use Rattle.dispatch.proofs.select.unbeaten.Statement.{statement}
 use Rattle.dispatch.proofs.select.unbeaten.Tie as tie
 use Rattle.dispatch.proofs.select.unbeaten.Reads as reads
@@ -40,22 +41,39 @@ loop-less : tie.Need-loop-less Inv-loop μ-loop
 loop-less c = omega arith
 
 loop-again : tie.Need-loop-again Inv-loop μ-loop
-loop-again c = ?
+loop-again c =
+    let l = c .before .before .before .loop in
+    (omega arith, below-more _ _ (l .inv .1) (or-left _ _ (eq-eqb _ _ (c .if1 .taken))))
 
 as-specific-requires : tie.Need-as-specific-requires Inv-loop μ-loop
-as-specific-requires c κs = ?
+as-specific-requires c κs =
+    let s = c .before .before in
+    let p = s .before .before .before .before .before .pre in
+    let rest = p .1 .1 in
+    let own = rest .1 .1 .1 in
+    let o = listed-at _ _ (rest .1 .0) (p .0) _ (rest .1 .1 .0) (s .before .loop .i) (s .loop-test .taken) in
+    (p .0, (p .1 .0, (o .0, (own .0, (of-arity (p .0) _ (rest .0) (o .1), of-arity (p .0) _ (rest .0) (own .1))))))
 
 returns : tie.Need-returns Inv-loop μ-loop
-returns c = ?
+returns c =
+    let s = c .before .before .before .before in
+    let p = s .before .before .before .before .before .pre in
+    sym (unbeaten-judged _ _ (p .1 .1 .1 .0) _ _ .breaks (s .before .loop .i) (s .loop-test .taken)
+    (or-none _ _ (ne-eqb _ _ (c .before .before .if1 .left)) (ap not (sym (c .before .as-specific .ensures) ∙ c .if2 .taken))))
 
 loop-less-2 : tie.Need-loop-less-2 Inv-loop μ-loop
 loop-less-2 c = omega arith
 
 loop-again-2 : tie.Need-loop-again-2 Inv-loop μ-loop
-loop-again-2 c = ?
+loop-again-2 c =
+    let s = c .before .before .before .before .before in
+    let a = s .before .before .before .before .args in
+    (omega arith, below-more _ _ (s .loop .inv .1) (or-right (eqb (getD (a .list .now) (s .loop .i) 0) (a .m)) _ (ap not (sym (c .before .as-specific .ensures) ∙ c .if2 .left))))
 
 returns-2 : tie.Need-returns-2 Inv-loop μ-loop
-returns-2 c = ?
+returns-2 c =
+    let p = c .before .before .before .before .before .pre in
+    sym (unbeaten-judged _ _ (p .1 .1 .1 .0) _ _ .holds (λ k l. c .before .loop .inv .1 k (omega arith)))
 
 pub unbeaten-spec : {M : Type 1} → statement M
 unbeaten-spec =
