@@ -1,3 +1,21 @@
+-- `dispatch::select::select` meets its contract. The outer loop's invariant: none of the first i methods leads the list. The inner loop's: m is at
+-- least as specific as each of the first j, or it is that one.
+-- Assumes nothing.
+use Prim.Native.Nat.{ℕ, _-_, _≤_, _<_}
+use native.Mathlib.Omega.{arith}
+use mathlib.Core.Path.{_≡_, refl, sym, ap, ap₂, _∙_}
+use mathlib.Core.Bool.{true, false, _||_}
+use lib.Dec.{eqb}
+use lib.ListN.{length, getD, take}
+use lib.Seq.{getD-take, length-take-le}
+use borrow.Author.Count.{below-none, below-more}
+use borrow.Author.Tests.{eq-eqb, ne-eqb, not-true, not-false}
+use Rattle.rules.specs.Model.{modelOf}
+use Rattle.rules.specs.Lookup as rules
+use Rattle.rules.proofs.Lists.{or-left, or-right, or-none, first-place, none-places}
+use Rattle.rules.proofs.Lookup.{leader-selected, none-selected}
+use Rattle.dispatch.specs.Found.{foundOf}
+use Rattle.dispatch.proofs.Asked.{of-arity, listed-at, leads-judged}
 use Rattle.dispatch.proofs.select.select.Statement.{statement}
 use Rattle.dispatch.proofs.select.select.Tie as tie
 use Rattle.dispatch.proofs.select.select.Reads as reads
@@ -6,96 +24,131 @@ use Rattle.dispatch.proofs.select.as_specific.Reads as as-specific-read
 use Rattle.dispatch.proofs.select.rival.Reads as rival-reads
 
 abbrev Inv-loop : tie.InvT-loop
-Inv-loop bytes b scratch f n list count i m j₀ j = ?
+Inv-loop bytes b scratch f n list count i m j₀ j =
+    (j ≤ count) × ((k : ℕ) → k < j → (eqb (getD list k 0) m || rules.asSpecific (modelOf bytes) m (getD list k 0)) ≡ true)
 
 abbrev μ-loop : tie.MeasureT-loop
-μ-loop bytes b scratch f n list count i m j₀ j = ?
+μ-loop bytes b scratch f n list count i m j₀ j = count - j
 
 abbrev Inv-candidates : tie.InvT-candidates
-Inv-candidates bytes b scratch f n list count i₀ i = ?
+Inv-candidates bytes b scratch f n list count i₀ i =
+    (i ≤ count) × ((k : ℕ) → k < i → rules.leads (modelOf bytes) (take count list) (getD (take count list) k 0) ≡ false)
 
 abbrev μ-candidates : tie.MeasureT-candidates
-μ-candidates bytes b scratch f n list count i₀ i = ?
+μ-candidates bytes b scratch f n list count i₀ i = count - i
 
--- src/select.rt:103:9
 returns : tie.Need-returns Inv-loop μ-loop Inv-candidates μ-candidates
-returns c = ?
+unfolding foundOf rules.select
+returns c =
+    let a = c .before .before .before .before .args in
+    ap (λ (k : ℕ). rules.select (modelOf (a .bytes .now)) (take k (a .list .now))) (sym (c .if1 .taken))
 
--- src/select.rt:106:5
 candidates-holds : tie.Need-candidates-holds Inv-loop μ-loop Inv-candidates μ-candidates
-candidates-holds c = ?
+candidates-holds c = (omega arith, below-none _)
 
--- src/select.rt:107:17
 mul-m : tie.Need-mul-m Inv-loop μ-loop Inv-candidates μ-candidates
-mul-m c = ?
+mul-m c = omega arith
 
--- src/select.rt:107:17
 shared-slice-read-m : tie.Need-shared-slice-read-m Inv-loop μ-loop Inv-candidates μ-candidates
-shared-slice-read-m c = ?
+shared-slice-read-m c = omega arith
 
--- src/select.rt:108:9
 add-i : tie.Need-add-i Inv-loop μ-loop Inv-candidates μ-candidates
-add-i c = ?
+add-i c = omega arith
 
--- src/select.rt:110:9
 loop-holds : tie.Need-loop-holds Inv-loop μ-loop Inv-candidates μ-candidates
-loop-holds c = ?
+loop-holds c = (omega arith, below-none _)
 
--- src/select.rt:111:21
 mul-o : tie.Need-mul-o Inv-loop μ-loop Inv-candidates μ-candidates
-mul-o c = ?
+mul-o c = omega arith
 
--- src/select.rt:111:21
 shared-slice-read-o : tie.Need-shared-slice-read-o Inv-loop μ-loop Inv-candidates μ-candidates
-shared-slice-read-o c = ?
+shared-slice-read-o c = omega arith
 
--- src/select.rt:112:13
 add-j : tie.Need-add-j Inv-loop μ-loop Inv-candidates μ-candidates
-add-j c = ?
+add-j c = omega arith
 
--- src/select.rt:110:9
 loop-less : tie.Need-loop-less Inv-loop μ-loop Inv-candidates μ-candidates
-loop-less c = ?
+loop-less c = omega arith
 
--- src/select.rt:110:9
 loop-again : tie.Need-loop-again Inv-loop μ-loop Inv-candidates μ-candidates
-loop-again c = ?
+loop-again c =
+    let l = c .before .before .before .loop in
+    (omega arith, below-more _ _ (l .inv .1) (or-left _ _ (eq-eqb _ _ (c .if2 .taken))))
 
--- src/select.rt:116:17
 as-specific-requires : tie.Need-as-specific-requires Inv-loop μ-loop Inv-candidates μ-candidates
-as-specific-requires c κs = ?
+as-specific-requires c κs =
+    let s = c .before .before in
+    let q = s .before .before .before in
+    let p = q .before .before .before .before .before .before .pre in
+    let rest = p .1 .1 in
+    let m = listed-at _ _ (rest .1 .0) (p .0) _ (rest .1 .1) (q .before .candidates .i) (q .candidates-test .taken) in
+    let o = listed-at _ _ (rest .1 .0) (p .0) _ (rest .1 .1) (s .before .loop .j) (s .loop-test .taken) in
+    (p .0, (p .1 .0, (m .0, (o .0, (of-arity (p .0) _ (rest .0) (m .1), of-arity (p .0) _ (rest .0) (o .1))))))
 
--- src/select.rt:106:5
 candidates-less : tie.Need-candidates-less Inv-loop μ-loop Inv-candidates μ-candidates
-candidates-less c = ?
+candidates-less c = omega arith
 
--- src/select.rt:106:5
 candidates-again : tie.Need-candidates-again Inv-loop μ-loop Inv-candidates μ-candidates
-candidates-again c = ?
+candidates-again c =
+    let s = c .before .before .before .before in
+    let q = s .before .before .before in
+    let i = q .before .candidates .i in
+    let start = q .before .before .before .before .before .before in
+    let a = start .args in
+    let ms = take (a .count) (a .list .now) in
+    let same = getD-take (a .count) (a .list .now) i 0 (q .candidates-test .taken) in
+    let below = or-none _ _ (ne-eqb _ _ (c .before .before .if2 .left)) (sym (c .before .as-specific .ensures) ∙ not-true _ (c .if3 .taken)) in
+    let drops = leads-judged (a .list .now) (a .count) (start .pre .1 .1 .1 .0) _ _ .breaks (s .before .loop .j) (s .loop-test .taken) below in
+    (omega arith, below-more _ _ (q .before .candidates .inv .1) (ap (rules.leads (modelOf (a .bytes .now)) ms) same ∙ drops))
 
--- src/select.rt:110:9
 loop-less-2 : tie.Need-loop-less-2 Inv-loop μ-loop Inv-candidates μ-candidates
-loop-less-2 c = ?
+loop-less-2 c = omega arith
 
--- src/select.rt:110:9
 loop-again-2 : tie.Need-loop-again-2 Inv-loop μ-loop Inv-candidates μ-candidates
-loop-again-2 c = ?
+loop-again-2 c =
+    let l = c .before .before .before .before .before .loop in
+    let q = c .before .before .before .before .before .before .before .before in
+    let list = q .before .before .before .before .before .args .list .now in
+    (
+      omega arith,
+      below-more _ _ (l .inv .1)
+      (or-right (eqb (getD list (l .j) 0) (getD list (q .candidates .i) 0)) _ (sym (c .before .as-specific .ensures) ∙ not-false _ (c .if3 .left))),
+    )
 
--- src/select.rt:120:9
 returns-2 : tie.Need-returns-2 Inv-loop μ-loop Inv-candidates μ-candidates
-returns-2 c = ?
+unfolding foundOf
+returns-2 c =
+    let l = c .before .loop in
+    let q = c .before .before .before in
+    let i = q .before .candidates .i in
+    let start = q .before .before .before .before .before .before in
+    let a = start .args in
+    let h = start .pre .1 .1 .1 .0 in
+    let M = modelOf (a .bytes .now) in
+    let ms = take (a .count) (a .list .now) in
+    let long = length-take-le (a .count) (a .list .now) h in
+    let same = getD-take (a .count) (a .list .now) i 0 (q .candidates-test .taken) in
+    let leads = leads-judged (a .list .now) (a .count) h M (getD (a .list .now) i 0) .holds (λ k r. l .inv .1 k (omega arith)) in
+    let first = first-place (rules.leads M ms) ms 0 i (omega arith) (ap (rules.leads M ms) same ∙ leads) (q .before .candidates .inv .1) in
+    ap rules.found (sym same) ∙ sym (leader-selected M ms (getD ms i 0) first)
 
--- src/select.rt:122:9
 rival-requires : tie.Need-rival-requires Inv-loop μ-loop Inv-candidates μ-candidates
-rival-requires c κs = ?
+rival-requires c κs = c .before .before .before .before .before .before .pre
 
--- src/select.rt:123:9
 rival-requires-2 : tie.Need-rival-requires-2 Inv-loop μ-loop Inv-candidates μ-candidates
-rival-requires-2 c κs = ?
+rival-requires-2 c κs = c .before .before .before .before .before .before .before .pre
 
--- src/select.rt:94:1
 returns-3 : tie.Need-returns-3 Inv-loop μ-loop Inv-candidates μ-candidates
-returns-3 c = ?
+unfolding foundOf
+returns-3 c =
+    let q = c .before .before .before in
+    let start = q .before .before .before .before .before in
+    let a = start .args in
+    let M = modelOf (a .bytes .now) in
+    let ms = take (a .count) (a .list .now) in
+    let long = length-take-le (a .count) (a .list .now) (start .pre .1 .1 .1 .0) in
+    let none = none-places (rules.leads M ms) ms 0 (λ k r. q .candidates .inv .1 k (omega arith)) in
+    ap₂ rules.ambiguous (c .before .rival .ensures) (c .rival2 .ensures) ∙ sym (none-selected M ms (omega arith) none)
 
 pub select-spec : {M : Type 1} → statement M
 select-spec =
