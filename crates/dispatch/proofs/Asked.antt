@@ -4,18 +4,19 @@ use Prim.Native.Nat.{ℕ, _≤_, _<_}
 use native.Mathlib.Omega.{arith}
 use mathlib.Core.Path.{_≡_, sym, ap, ap₂, _∙_}
 use mathlib.Core.Bool.{Bool, true, false, not, _&&_, _||_, true≢false}
-use mathlib.Core.List.{List}
+use mathlib.Core.List.{List, List·Memᴰ}
 use lib.Dec.{ltb, eqb}
 use lib.ListN.{length, getD, take}
 use lib.Seq.{getD-take, length-take-le}
-use borrow.Author.Tests.{ltb-true, eqb-true}
+use borrow.Author.Tests.{ltb-true, lt-ltb, eqb-true, eq-eqb}
 use Rattle.rules.specs.Bounded.{every, matching}
 use Rattle.rules.specs.Layout.{places}
 use Rattle.rules.specs.Model.{Model, Wellformed, modelOf, present}
 use Rattle.rules.specs.Subclass.{subclass, under}
-use Rattle.rules.specs.Lookup.{applies, asSpecific, leads, unbeaten}
+use Rattle.rules.specs.Lookup.{applies, applicable, asSpecific, leads, unbeaten}
 use Rattle.rules.specs.Calls.{scratchBytes, rowBytes}
-use Rattle.rules.proofs.Lists.{and-left, and-right, every-place, every-places, every-broken, matching-from, matching-at}
+use Rattle.rules.proofs.Lists.{and-left, and-right, and-both, every-from, every-place, every-places, every-broken, matching-from, matching-at}
+use Rattle.rules.proofs.Lookup.{applicable-candidate}
 use Rattle.layout.specs.Opened.{Opened}
 use Rattle.layout.specs.declared.bundle.Bundle.{Bundle}
 use Rattle.layout.proofs.Opened.{wellformed-of, counts-of}
@@ -127,3 +128,13 @@ module _ (list : List ℕ) (count : ℕ) (h : count ≤ length list) where
       let counts = counts-of o in
       let below = ltb-true m (modelOf b .methods) (and-left (ltb m (modelOf b .methods)) (eqb (modelOf b .function m) f) e) in
       (omega arith, eqb-true (modelOf b .function m) f (and-right (ltb m (modelOf b .methods)) (eqb (modelOf b .function m) f) e))
+
+-- the applicable methods of a function are methods of it
+pub applicable-listed : (M : Model) (f : ℕ) (args : List ℕ) → Listed M f (applicable M f args)
+unfolding methodOf
+applicable-listed M f args = listed (every-from (methodOf M f) (applicable M f args) one)
+  where
+    one : (m : ℕ) → List·Memᴰ m (applicable M f args) → methodOf M f m ≡ true
+    one m h =
+        let c = applicable-candidate M f args h in
+        and-both (ltb m (M .methods)) (eqb (M .function m) f) (lt-ltb m (M .methods) (c .bound)) (eq-eqb (M .function m) f (c .ofFunction))

@@ -1,3 +1,12 @@
+-- `dispatch::lookup::lookup` meets its contract: it selects from the applicable methods.
+-- Assumes nothing.
+use native.Mathlib.Omega.{arith}
+use mathlib.Core.Path.{_≡_, ap, _∙_}
+use lib.ListN.{take}
+use Rattle.rules.specs.Model.{modelOf}
+use Rattle.rules.specs.Lookup as rules
+use Rattle.layout.proofs.Opened.{wellformed-of, counts-of}
+use Rattle.dispatch.proofs.Asked.{applicable-listed}
 use borrow.Author.Needs.{needs}
 use Rattle.dispatch.proofs.lookup.lookup.Statement.{statement}
 use Rattle.dispatch.proofs.lookup.lookup.Tie as tie
@@ -7,29 +16,34 @@ use Rattle.dispatch.proofs.applicable.applicable.Reads as applicable-re
 use Rattle.dispatch.proofs.select.select.Reads as select-reads
 use Rattle.layout.proofs.field.arity.Reads as arity-reads
 
--- src/lookup.rt:26:9
 arity-requires : tie.Need-arity-requires
 arity-requires c κs = search needs
 
--- src/lookup.rt:28:56
 slice-aggregate-applicable : tie.Need-slice-aggregate-applicable
 slice-aggregate-applicable c = search needs
 
--- src/lookup.rt:28:9
 applicable-requires : tie.Need-applicable-requires
-applicable-requires c κs = ?
+applicable-requires c κs =
+    let p = c .before .before .before .before .before .pre in
+    let rest = p .1 .1 in
+    (p .0, (p .1 .0, (rest .0, (rest .1 .0, (rest .1 .1, omega arith)))))
 
--- src/lookup.rt:29:37
 slice-aggregate-select : tie.Need-slice-aggregate-select
 slice-aggregate-select c = search needs
 
--- src/lookup.rt:29:5
 select-requires : tie.Need-select-requires
-select-requires c κs = ?
+select-requires c κs =
+    let p = c .before .before .before .before .before .before .before .before .pre in
+    let counts = counts-of (p .0) in
+    let limit = wellformed-of (p .0) .methods-limit in
+    let e = c .before .before .applicable .ensures in
+    (p .0, (p .1 .0, (c .before .before .before .before .arity .ensures .0, (omega (arith, e .0, e .1 .0), rw (e .1 .1) (applicable-listed _ _ _)))))
 
--- src/lookup.rt:18:1
 returns : tie.Need-returns
-returns c = ?
+unfolding rules.lookup
+returns c =
+    let a = c .before .before .before .before .before .before .before .before .before .args in
+    c .select .ensures ∙ ap (rules.select (modelOf (a .bytes .now))) (c .before .before .before .applicable .ensures .1 .1)
 
 pub lookup-spec : {M : Type 1} → statement M
 lookup-spec =
