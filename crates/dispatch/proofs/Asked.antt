@@ -3,7 +3,7 @@
 use Prim.Native.Nat.{ℕ, _≤_, _<_}
 use native.Mathlib.Omega.{arith}
 use mathlib.Core.Path.{_≡_, sym, ap, ap₂, _∙_}
-use mathlib.Core.Bool.{Bool, true, false, not, _&&_, _||_, true≢false}
+use mathlib.Core.Bool.{Bool, true, false, not, _||_, true≢false}
 use mathlib.Core.List.{List, List·Memᴰ}
 use lib.Dec.{ltb, eqb}
 use lib.ListN.{length, getD, take}
@@ -11,7 +11,7 @@ use lib.Seq.{getD-take, length-take-le}
 use borrow.Author.Tests.{ltb-true, lt-ltb, eqb-true, eq-eqb}
 use Rattle.rules.specs.Bounded.{every, matching}
 use Rattle.rules.specs.Layout.{places}
-use Rattle.rules.specs.Model.{Model, Wellformed, modelOf, present}
+use Rattle.rules.specs.Model.{Model, modelOf, present}
 use Rattle.rules.specs.Subclass.{subclass, under}
 use Rattle.rules.specs.Lookup.{applies, applicable, asSpecific, leads, unbeaten}
 use Rattle.rules.specs.Calls.{scratchBytes, rowBytes}
@@ -26,6 +26,16 @@ use Rattle.dispatch.specs.Listed.{methodOf, Listed, listed}
 
 filled-long : {M : Model} {s : List ℕ} → Filled M s → scratchBytes ≤ length s
 filled-long (filled f) = f .long
+
+-- each class of a list is under the one at its place in another
+under-judged : (M : Model) (xs ys : List ℕ) (n : ℕ) → length xs ≡ n → length ys ≡ n
+    → Judged (under M xs ys) (λ i. subclass M (getD xs i 0) (getD ys i 0)) n
+unfolding under
+under-judged M xs ys n p q =
+    record {
+      holds = λ all. matching-from (subclass M) xs ys 0 0 (p ∙ sym q) (λ i l. all i (omega arith));
+      breaks = λ i l e. refuted (matching (subclass M) xs ys) (λ t. true≢false (sym (matching-at (subclass M) xs ys 0 0 t i (omega arith)) ∙ e));
+    }
 
 module _ {b : List ℕ} {t : Bundle} (o : Opened b t) where
   -- what `under` requires of two classes of the bundle
@@ -64,17 +74,7 @@ module _ {b : List ℕ} {t : Bundle} (o : Opened b t) where
       let below = every-place (λ c. ltb c (modelOf b .classes)) (take n args) 0 e i (omega arith) in
       omega (arith, ltb-true (getD (take n args) i 0) (modelOf b .classes) below)
 
--- classes by their places: each is under the other's
-under-judged : (M : Model) (xs ys : List ℕ) (n : ℕ) → length xs ≡ n → length ys ≡ n
-    → Judged (under M xs ys) (λ i. subclass M (getD xs i 0) (getD ys i 0)) n
-unfolding under
-under-judged M xs ys n p q =
-    record {
-      holds = λ all. matching-from (subclass M) xs ys 0 0 (p ∙ sym q) (λ i l. all i (omega arith));
-      breaks = λ i l e. refuted (matching (subclass M) xs ys) (λ t. true≢false (sym (matching-at (subclass M) xs ys 0 0 t i (omega arith)) ∙ e));
-    }
-
-module _ {b : List ℕ} {t : Bundle} (o : Opened b t) where
+  -- the two tests over places, each by what it asks at a place
   pub specific-judged : (m k n : ℕ) → m < t .methods → k < t .methods
       → n ≡ modelOf b .arity (modelOf b .function m) → n ≡ modelOf b .arity (modelOf b .function k)
       → Judged (asSpecific (modelOf b) m k) (λ i. subclass (modelOf b) (getD (modelOf b .specialisers m) i 0) (getD (modelOf b .specialisers k) i 0)) n
@@ -93,7 +93,7 @@ module _ {b : List ℕ} {t : Bundle} (o : Opened b t) where
       under-judged (modelOf b) (take n args) (modelOf b .specialisers m) n (length-take-le n args h)
       (wellformed-of o .specialiser-places m (omega arith) ∙ sym e)
 
--- a list's first elements by their places
+-- a list's first elements, by their places in the list
 module _ (list : List ℕ) (count : ℕ) (h : count ≤ length list) where
   every-judged : (p : ℕ → Bool) → Judged (every p (take count list)) (λ i. p (getD list i 0)) count
   every-judged p =

@@ -36,7 +36,15 @@ fn applies(bytes: &[u8], b: Bundle, scratch: &[u8], n: usize, args: &[usize], m:
 }
 
 // Whether method m is one of function f, of n arguments, and applies to them.
-fn suits(bytes: &[u8], b: Bundle, scratch: &[u8], f: usize, n: usize, args: &[usize], m: usize) -> bool
+fn suits(
+    bytes: &[u8],
+    b: Bundle,
+    scratch: &[u8],
+    f: usize,
+    n: usize,
+    args: &[usize],
+    m: usize,
+) -> bool
     requires { ⌜ Opened (now bytes) b ⌝ }
     requires { ⌜ Filled (modelOf (now bytes)) (now scratch) ⌝ }
     requires { ⌜ m < b .methods ⌝ }
@@ -52,7 +60,14 @@ fn suits(bytes: &[u8], b: Bundle, scratch: &[u8], f: usize, n: usize, args: &[us
 }
 
 // Writes the methods of function f that apply to the arguments into the list, rising, and says how many there are.
-pub fn applicable(bytes: &[u8], b: Bundle, scratch: &[u8], f: usize, args: &[usize], list: &mut [usize]) -> usize
+pub fn applicable(
+    bytes: &[u8],
+    b: Bundle,
+    scratch: &[u8],
+    f: usize,
+    args: &[usize],
+    list: &mut [usize],
+) -> usize
     requires { ⌜ Opened (now bytes) b ⌝ }
     requires { ⌜ Filled (modelOf (now bytes)) (now scratch) ⌝ }
     requires { ⌜ f < b .functions ⌝ }

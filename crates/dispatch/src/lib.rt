@@ -1,5 +1,5 @@
 // Dispatch: the subclass matrix in the scratch, the methods that apply to a send, and the one that lookup finds.
-pub mod matrix;
 pub mod applicable;
-pub mod select;
 pub mod lookup;
+pub mod matrix;
+pub mod select;

@@ -32,7 +32,11 @@ pub fn as_specific(bytes: &[u8], b: Bundle, scratch: &[u8], n: usize, m: usize, 
 {
     let mut i = 0;
     while i < n {
-        if !under(scratch, specialiser(bytes, b, m, i), specialiser(bytes, b, o, i)) {
+        if !under(
+            scratch,
+            specialiser(bytes, b, m, i),
+            specialiser(bytes, b, o, i),
+        ) {
             return false;
         }
         i += 1;
@@ -41,7 +45,16 @@ pub fn as_specific(bytes: &[u8], b: Bundle, scratch: &[u8], n: usize, m: usize, 
 }
 
 // Whether no other method of the list is at least as specific as method m.
-fn unbeaten(bytes: &[u8], b: Bundle, scratch: &[u8], f: usize, n: usize, list: &[usize], count: usize, m: usize) -> bool
+fn unbeaten(
+    bytes: &[u8],
+    b: Bundle,
+    scratch: &[u8],
+    f: usize,
+    n: usize,
+    list: &[usize],
+    count: usize,
+    m: usize,
+) -> bool
     requires { ⌜ Opened (now bytes) b ⌝ }
     requires { ⌜ Filled (modelOf (now bytes)) (now scratch) ⌝ }
     requires { ⌜ n ≡ (modelOf (now bytes)) .arity f ⌝ }
@@ -66,7 +79,16 @@ fn unbeaten(bytes: &[u8], b: Bundle, scratch: &[u8], f: usize, n: usize, list: &
 }
 
 // The k-th of the methods that no other of the list is at least as specific as; 0 where there are not so many.
-fn rival(bytes: &[u8], b: Bundle, scratch: &[u8], f: usize, n: usize, list: &[usize], count: usize, k: usize) -> usize
+fn rival(
+    bytes: &[u8],
+    b: Bundle,
+    scratch: &[u8],
+    f: usize,
+    n: usize,
+    list: &[usize],
+    count: usize,
+    k: usize,
+) -> usize
     requires { ⌜ Opened (now bytes) b ⌝ }
     requires { ⌜ Filled (modelOf (now bytes)) (now scratch) ⌝ }
     requires { ⌜ n ≡ (modelOf (now bytes)) .arity f ⌝ }
@@ -91,7 +113,15 @@ fn rival(bytes: &[u8], b: Bundle, scratch: &[u8], f: usize, n: usize, list: &[us
 }
 
 // The method of the list that is at least as specific as every other: a candidate is dropped from the inner loop when one rival is not above it.
-pub fn select(bytes: &[u8], b: Bundle, scratch: &[u8], f: usize, n: usize, list: &[usize], count: usize) -> Found
+pub fn select(
+    bytes: &[u8],
+    b: Bundle,
+    scratch: &[u8],
+    f: usize,
+    n: usize,
+    list: &[usize],
+    count: usize,
+) -> Found
     requires { ⌜ Opened (now bytes) b ⌝ }
     requires { ⌜ Filled (modelOf (now bytes)) (now scratch) ⌝ }
     requires { ⌜ n ≡ (modelOf (now bytes)) .arity f ⌝ }

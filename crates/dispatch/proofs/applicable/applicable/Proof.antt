@@ -3,8 +3,7 @@
 use Prim.Native.Nat.{ℕ, _-_, _≤_, _<_}
 use native.Mathlib.Omega.{arith}
 use mathlib.Core.Path.{_≡_, refl, sym, ap, _∙_}
-use mathlib.Core.Bool.{true}
-use lib.ListN.{length, getD, take, set, length-set}
+use lib.ListN.{length, take, length-set}
 use borrow.Author.Tests.{not-true, not-false}
 use Rattle.rules.specs.Bounded.{upto, keep}
 use Rattle.rules.specs.Layout.{maxMethods}
@@ -15,10 +14,6 @@ use Rattle.layout.proofs.Opened.{wellformed-of, counts-of}
 use Rattle.dispatch.proofs.Kept.{suited, kept-stored}
 use Rattle.dispatch.proofs.applicable.applicable.Statement.{statement}
 use Rattle.dispatch.proofs.applicable.applicable.Tie as tie
-use Rattle.dispatch.proofs.applicable.applicable.Reads as reads
-use Rattle.dispatch.proofs.applicable.applicable.Lts as lts
-use Rattle.dispatch.proofs.applicable.suits.Reads as suits-reads
-use Rattle.layout.proofs.field.arity.Reads as arity-reads
 
 abbrev Inv-loop : tie.InvT-loop
 Inv-loop bytes b scratch f args list₀ n methods count₀ m₀ list count m =

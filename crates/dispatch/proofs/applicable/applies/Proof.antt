@@ -13,10 +13,6 @@ use Rattle.rules.specs.Subclass.{subclass}
 use Rattle.dispatch.proofs.Asked.{asked, answered, method-places, argument-below, applies-judged}
 use Rattle.dispatch.proofs.applicable.applies.Statement.{statement}
 use Rattle.dispatch.proofs.applicable.applies.Tie as tie
-use Rattle.dispatch.proofs.applicable.applies.Reads as reads
-use Rattle.dispatch.proofs.applicable.applies.Lts as lts
-use Rattle.dispatch.proofs.matrix.under.Reads as under-reads
-use Rattle.layout.proofs.field.specialiser.Reads as specialiser-reads
 
 abbrev Inv-loop : tie.InvT-loop
 Inv-loop bytes b scratch n args m i₀ i =

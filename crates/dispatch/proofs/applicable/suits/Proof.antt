@@ -1,18 +1,14 @@
 -- `dispatch::applicable::suits` meets its contract: the method's function is asked first.
 -- Assumes nothing.
-use mathlib.Core.Path.{_≡_, refl, sym, ap, _∙_}
+use borrow.Author.Needs.{needs}
+use mathlib.Core.Path.{_≡_, sym, _∙_}
 use mathlib.Core.Bool.{Bool, true, false, _&&_}
-use lib.Dec.{eqb}
 use borrow.Author.Tests.{eq-eqb, ne-eqb}
 use Rattle.dispatch.proofs.Asked.{of-arity}
-use borrow.Author.Needs.{needs}
 use Rattle.dispatch.proofs.applicable.suits.Statement.{statement}
 use Rattle.dispatch.proofs.applicable.suits.Tie as tie
-use Rattle.dispatch.proofs.applicable.suits.Reads as reads
-use Rattle.dispatch.proofs.applicable.suits.Lts as lts
-use Rattle.dispatch.proofs.applicable.applies.Reads as applies-reads
-use Rattle.layout.proofs.field.function.Reads as function-reads
 
+-- two tests, the first of which passes or fails
 second : (a b r : Bool) → a ≡ true → r ≡ b → r ≡ (a && b)
 second a b r e q = rw e q
 

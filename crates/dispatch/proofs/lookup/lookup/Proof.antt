@@ -1,8 +1,7 @@
 -- `dispatch::lookup::lookup` meets its contract: it selects from the applicable methods.
 -- Assumes nothing.
 use native.Mathlib.Omega.{arith}
-use mathlib.Core.Path.{_≡_, ap, _∙_}
-use lib.ListN.{take}
+use mathlib.Core.Path.{ap, _∙_}
 use Rattle.rules.specs.Model.{modelOf}
 use Rattle.rules.specs.Lookup as rules
 use Rattle.layout.proofs.Opened.{wellformed-of, counts-of}
@@ -10,11 +9,6 @@ use Rattle.dispatch.proofs.Asked.{applicable-listed}
 use borrow.Author.Needs.{needs}
 use Rattle.dispatch.proofs.lookup.lookup.Statement.{statement}
 use Rattle.dispatch.proofs.lookup.lookup.Tie as tie
-use Rattle.dispatch.proofs.lookup.lookup.Reads as reads
-use Rattle.dispatch.proofs.lookup.lookup.Lts as lts
-use Rattle.dispatch.proofs.applicable.applicable.Reads as applicable-reads
-use Rattle.dispatch.proofs.select.select.Reads as select-reads
-use Rattle.layout.proofs.field.arity.Reads as arity-reads
 
 arity-requires : tie.Need-arity-requires
 arity-requires c κs = search needs

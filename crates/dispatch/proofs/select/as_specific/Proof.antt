@@ -1,6 +1,5 @@
 -- `dispatch::select::as_specific` meets its contract. The loop's invariant: at every place below i the one specialiser is under the other.
 -- Assumes nothing.
-use borrow.Author.Needs.{needs}
 use Prim.Native.Nat.{ℕ, _-_, _≤_, _<_}
 use native.Mathlib.Omega.{arith}
 use mathlib.Core.Path.{_≡_, sym, _∙_}
@@ -13,10 +12,6 @@ use Rattle.rules.specs.Subclass.{subclass}
 use Rattle.dispatch.proofs.Asked.{asked, answered, method-places, specific-judged}
 use Rattle.dispatch.proofs.select.as_specific.Statement.{statement}
 use Rattle.dispatch.proofs.select.as_specific.Tie as tie
-use Rattle.dispatch.proofs.select.as_specific.Reads as reads
-use Rattle.dispatch.proofs.select.as_specific.Lts as lts
-use Rattle.dispatch.proofs.matrix.under.Reads as under-reads
-use Rattle.layout.proofs.field.specialiser.Reads as specialiser-reads
 
 abbrev Inv-loop : tie.InvT-loop
 Inv-loop bytes b scratch n m o i₀ i =

@@ -1,9 +1,8 @@
 -- `dispatch::select::rival` meets its contract. The loop's invariant: `seen` counts the unbeaten ones of the first i methods, and is at most k.
 -- Assumes nothing.
-use Prim.Native.Nat.{ℕ, _-_, _≤_, _<_}
+use Prim.Native.Nat.{_-_, _≤_, _<_}
 use native.Mathlib.Omega.{arith}
 use mathlib.Core.Path.{_≡_, refl, sym, ap, _∙_}
-use mathlib.Core.Bool.{true}
 use lib.ListN.{length, getD, take}
 use lib.Seq.{getD-take, length-take-le}
 use borrow.Author.Tests.{not-true, not-false}
@@ -15,9 +14,6 @@ use Rattle.dispatch.proofs.Asked.{listed-at}
 use Rattle.dispatch.proofs.Kept.{kept-at, kept-more, kept-past}
 use Rattle.dispatch.proofs.select.rival.Statement.{statement}
 use Rattle.dispatch.proofs.select.rival.Tie as tie
-use Rattle.dispatch.proofs.select.rival.Reads as reads
-use Rattle.dispatch.proofs.select.rival.Lts as lts
-use Rattle.dispatch.proofs.select.unbeaten.Reads as unbeaten-reads
 
 abbrev Inv-loop : tie.InvT-loop
 Inv-loop bytes b scratch f n list count k seen₀ i₀ seen i =
@@ -95,8 +91,7 @@ loop-less-2 c = omega arith
 loop-again-2 : tie.Need-loop-again-2 Inv-loop μ-loop
 loop-again-2 c =
     let s = c .before .before .before .before in
-    let l = s .before .loop in
-    (
+    let l = s .before .loop in (
       omega arith,
       omega arith,
       kept-more _ _ (l .i) (l .seen) (inside s) (sym (met (c .before .before)) ∙ not-false _ (c .before .if1 .left)) (l .inv .2),

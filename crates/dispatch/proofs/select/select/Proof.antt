@@ -3,10 +3,10 @@
 -- Assumes nothing.
 use Prim.Native.Nat.{ℕ, _-_, _≤_, _<_}
 use native.Mathlib.Omega.{arith}
-use mathlib.Core.Path.{_≡_, refl, sym, ap, ap₂, _∙_}
+use mathlib.Core.Path.{_≡_, sym, ap, ap₂, _∙_}
 use mathlib.Core.Bool.{true, false, _||_}
 use lib.Dec.{eqb}
-use lib.ListN.{length, getD, take}
+use lib.ListN.{getD, take}
 use lib.Seq.{getD-take, length-take-le}
 use borrow.Author.Count.{below-none, below-more}
 use borrow.Author.Tests.{eq-eqb, ne-eqb, not-true, not-false}
@@ -18,10 +18,6 @@ use Rattle.dispatch.specs.Found.{foundOf}
 use Rattle.dispatch.proofs.Asked.{of-arity, listed-at, leads-judged}
 use Rattle.dispatch.proofs.select.select.Statement.{statement}
 use Rattle.dispatch.proofs.select.select.Tie as tie
-use Rattle.dispatch.proofs.select.select.Reads as reads
-use Rattle.dispatch.proofs.select.select.Lts as lts
-use Rattle.dispatch.proofs.select.as_specific.Reads as as-specific-reads
-use Rattle.dispatch.proofs.select.rival.Reads as rival-reads
 
 abbrev Inv-loop : tie.InvT-loop
 Inv-loop bytes b scratch f n list count i m j₀ j =
@@ -108,11 +104,10 @@ loop-again-2 : tie.Need-loop-again-2 Inv-loop μ-loop Inv-candidates μ-candidat
 loop-again-2 c =
     let l = c .before .before .before .before .before .loop in
     let q = c .before .before .before .before .before .before .before .before in
-    let list = q .before .before .before .before .before .args .list .now in
-    (
+    let list = q .before .before .before .before .before .args .list .now in (
       omega arith,
       below-more _ _ (l .inv .1)
-      (or-right (eqb (getD list (l .j) 0) (getD list (q .candidates .i) 0)) _ (sym (c .before .as-specific .ensures) ∙ not-false _ (c .if3 .left))),
+          (or-right (eqb (getD list (l .j) 0) (getD list (q .candidates .i) 0)) _ (sym (c .before .as-specific .ensures) ∙ not-false _ (c .if3 .left))),
     )
 
 returns-2 : tie.Need-returns-2 Inv-loop μ-loop Inv-candidates μ-candidates

@@ -5,7 +5,7 @@ use native.Mathlib.Omega.{arith}
 use mathlib.Core.Path.{_≡_, sym, ap, _∙_}
 use mathlib.Core.Bool.{true, not, _||_}
 use lib.Dec.{eqb}
-use lib.ListN.{getD, take}
+use lib.ListN.{getD}
 use borrow.Author.Count.{below-none, below-more}
 use borrow.Author.Tests.{eq-eqb, ne-eqb}
 use Rattle.rules.specs.Model.{modelOf}
@@ -14,9 +14,6 @@ use Rattle.rules.proofs.Lists.{or-left, or-right, or-none}
 use Rattle.dispatch.proofs.Asked.{of-arity, listed-at, unbeaten-judged}
 use Rattle.dispatch.proofs.select.unbeaten.Statement.{statement}
 use Rattle.dispatch.proofs.select.unbeaten.Tie as tie
-use Rattle.dispatch.proofs.select.unbeaten.Reads as reads
-use Rattle.dispatch.proofs.select.unbeaten.Lts as lts
-use Rattle.dispatch.proofs.select.as_specific.Reads as as-specific-reads
 
 abbrev Inv-loop : tie.InvT-loop
 Inv-loop bytes b scratch f n list count m i₀ i =
