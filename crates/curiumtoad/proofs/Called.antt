@@ -2,14 +2,16 @@
 -- Assumes nothing.
 use Prim.Native.Nat.{ℕ, _≤_, _<_}
 use mathlib.Core.Path.{_≡_, refl, sym, _∙_}
-use mathlib.Core.Bool.{Bool, true, false}
+use mathlib.Core.Bool.{Bool, true, false, _&&_, and-false}
+use mathlib.Core.Logic.{_⊎_, inl, inr}
 use mathlib.Core.List.{List, [], _∷_}
 use lib.Dec.{leb, ltb}
 use lib.ListN.{length, getD}
 use borrow.Author.Tests.{lt-ltb, le-ltb, le-leb, lt-leb}
 use Rattle.rules.specs.Layout.{Answer, gives, refuses, opening, require, codeOf}
 use Rattle.rules.specs.Model.{Model, modelOf}
-use Rattle.rules.specs.Calls.{scratchBytes, onOpening, whenOpen, withScratch, bodyViewCall, overwrite, matrixByte, scratchOn, scratchAfter}
+use Rattle.rules.specs.Subclass.{subclass}
+use Rattle.rules.specs.Calls.{scratchBytes, onOpening, whenOpen, withScratch, bodyViewCall, ancestryIn, overwrite, matrixByte, scratchOn, scratchAfter}
 use Rattle.layout.specs.declared.finding.LayoutFinding.{LayoutFinding}
 use Rattle.layout.specs.declared.finding.LayoutFinding.the-variants as finding
 use Rattle.layout.specs.declared.finding.Opening.the-variants as answer
@@ -17,6 +19,8 @@ use Rattle.layout.specs.declared.bundle.Bundle.{Bundle}
 use Rattle.layout.specs.Opening.{said, saidOf, Opens}
 use Rattle.layout.specs.Opened as layout-opened
 use Rattle.layout.proofs.Opened.{counts-of, opened-of}
+use Rattle.dispatch.specs.Matrix.{Filled}
+use Rattle.dispatch.proofs.Entry.{filled-whole}
 use Rattle.curiumtoad.specs.declared.refusal.Refusal.{Refusal}
 use Rattle.curiumtoad.specs.declared.refusal.Refusal.the-variants as refusal
 use Rattle.curiumtoad.specs.declared.prepare.Prepared.the-variants as prepared
@@ -119,3 +123,20 @@ module _ {A : Type 0} (b scratch : List ℕ) (call : Model → Answer A) where
   when-prepared (layout-opened.opened counts e tables, h) =
       opened-call b (λ M. require (leb scratchBytes (length scratch)) 19 (call M)) counts e
       ∙ rw (le-leb scratchBytes (length scratch) h)
+
+-- the matrix that a prepared call finds in the scratch
+pub prepared-filled : (b scratch : List ℕ) {after : List ℕ} {t : Bundle} → Prepares b scratch (prepared.Ready t) → after ≡ scratchAfter b scratch → Filled (modelOf b) after
+prepared-filled b scratch (layout-opened.opened counts e tables, h) q =
+    rw (q, scratch-filled b scratch counts e h) (filled-whole (modelOf b) scratch h)
+
+-- The ancestry question's own rules.
+module _ {b : List ℕ} {t : Bundle} (o : layout-opened.Opened b t) (a c : ℕ) where
+  pub ancestry-absent : (t .classes ≤ a) ⊎ (t .classes ≤ c) → refuses 18 [] ≡ ancestryIn a c (modelOf b)
+  unfolding ancestryIn require
+  ancestry-absent (inl h) = rw (le-ltb a (modelOf b .classes) (rw (sym (counts-of o .classes)) h))
+  ancestry-absent (inr h) = rw (le-ltb c (modelOf b .classes) (rw (sym (counts-of o .classes)) h), and-false)
+
+  pub ancestry-answered : a < t .classes → c < t .classes → gives (subclass (modelOf b) a c) ≡ ancestryIn a c (modelOf b)
+  unfolding ancestryIn require
+  ancestry-answered h k =
+      rw (lt-ltb a (modelOf b .classes) (rw (sym (counts-of o .classes)) h), lt-ltb c (modelOf b .classes) (rw (sym (counts-of o .classes)) k))

@@ -1,2 +1,4 @@
 pub mod Refusal
 pub mod Prepared
+pub mod Send
+pub mod Said

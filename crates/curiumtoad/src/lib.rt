@@ -1,6 +1,9 @@
 // The entry points: whatever is passed, an answer comes back. Each opens the bundle first, refuses in the order of document 01's numbers, and leaves
 // the work to the layers below.
+pub mod ancestry;
+pub mod lookup;
 pub mod opening;
 pub mod prepare;
 pub mod refusal;
+pub mod send;
 pub mod view;

@@ -114,7 +114,7 @@ rises-judged (x ∷ xs) =
         let before : suc i - 1 ≡ i = omega arith in
         rw (ne-eqb (suc i) 0 (λ q. omega arith), before)
 
-tuple-judged : (classes n : ℕ) (xs : List ℕ) → Judged (tupleRule classes n xs) (placeRule (λ i. getD xs i 0) classes n) (length xs)
+pub tuple-judged : (classes n : ℕ) (xs : List ℕ) → Judged (tupleRule classes n xs) (placeRule (λ i. getD xs i 0) classes n) (length xs)
 unfolding tupleRule placeRule every
 tuple-judged classes zero xs =
     judged-agree (λ i. eqb (getD xs i 0) 0) (placeRule (λ i. getD xs i 0) classes 0) (length xs) (λ i l. rw (le-ltb i 0 (omega arith)))

@@ -34,6 +34,7 @@ module _ {A : Type 0} where
   unfoldable pub withScratch : List ℕ → ℕ → (Model → Answer A) → Answer A
   withScratch b scratch answer = whenOpen b (λ M. require (leb scratchBytes scratch) 19 (answer M))
 
+-- What follows 19 is a definition of its own for each call, over the model.
 -- A call's send is a function and a number for each of the layout's places. Of 18: "absent function … or class; unused argument not 0".
 unfoldable pub sendRule : Model → ℕ → List ℕ → Bool
 sendRule M f tuple = ltb f (M .functions) && tupleRule (M .classes) (M .arity f) tuple
@@ -47,9 +48,11 @@ unfoldable pub openingCall : List ℕ → Answer (List ℕ)
 openingCall b = opening b
 
 -- "the ancestry question on two classes answers yes or no"
+unfoldable pub ancestryIn : ℕ → ℕ → Model → Answer Bool
+ancestryIn a c M = require (ltb a (M .classes) && ltb c (M .classes)) 18 (gives (subclass M a c))
+
 unfoldable pub ancestryCall : List ℕ → ℕ → ℕ → ℕ → Answer Bool
-ancestryCall b scratch a c =
-    withScratch b scratch (λ M. require (ltb a (M .classes) && ltb c (M .classes)) 18 (gives (subclass M a c)))
+ancestryCall b scratch a c = withScratch b scratch (ancestryIn a c)
 
 unfoldable pub foundAnswer : ℕ → List ℕ → Found → Answer ℕ
 foundAnswer f tuple (found m) = gives m
@@ -57,20 +60,24 @@ foundAnswer f tuple missing = refuses 10 (f ∷ tuple)
 foundAnswer f tuple (ambiguous m n) = refuses 11 (f ∷ tuple ++ m ∷ n ∷ [])
 
 -- "Lookup takes abstract classes too."
+unfoldable pub lookupIn : ℕ → List ℕ → Model → Answer ℕ
+lookupIn f tuple M = require (sendRule M f tuple) 18 (foundAnswer f tuple (lookup M f (used M f tuple)))
+
 unfoldable pub lookupCall : List ℕ → ℕ → ℕ → List ℕ → Answer ℕ
-lookupCall b scratch f tuple =
-    withScratch b scratch (λ M. require (sendRule M f tuple) 18 (foundAnswer f tuple (lookup M f (used M f tuple))))
+lookupCall b scratch f tuple = withScratch b scratch (lookupIn f tuple)
 
 unfoldable pub licensed : Static → Answer Static
 licensed [] = refuses 16 []
 licensed (c ∷ cs) = gives (c ∷ cs)
 
 -- "The send type call takes a function and a class for each argument, abstract ones too."
+unfoldable pub sendTypeIn : ℕ → ℕ → List ℕ → Model → Answer Static
+sendTypeIn row f tuple M =
+    require (leb rowBytes row) 20
+    (require (sendRule M f tuple) 18 (licensed (sendType M f (map (λ c. c ∷ []) (used M f tuple)))))
+
 unfoldable pub sendTypeCall : List ℕ → ℕ → ℕ → ℕ → List ℕ → Answer Static
-sendTypeCall b scratch row f tuple =
-    withScratch b scratch
-    (λ M. require (leb rowBytes row) 20
-    (require (sendRule M f tuple) 18 (licensed (sendType M f (map (λ c. c ∷ []) (used M f tuple))))))
+sendTypeCall b scratch row f tuple = withScratch b scratch (sendTypeIn row f tuple)
 
 unfoldable pub checkCall : List ℕ → ℕ → Answer (Unit {0})
 checkCall b scratch = withScratch b scratch verdict
@@ -91,19 +98,23 @@ witnessRule M s tuple =
 unfoldable pub witnessAnswer : Model → ℕ → List ℕ → Answer (Unit {0})
 witnessAnswer M s args = coverageRefusal M s args (judge M s args)
 
+unfoldable pub witnessIn : ℕ → List ℕ → Model → Answer (Unit {0})
+witnessIn s tuple M = require (witnessRule M s tuple) 18 (witnessAnswer M s (used M (M .sigFunction s) tuple))
+
 unfoldable pub witnessCall : List ℕ → ℕ → ℕ → List ℕ → Answer (Unit {0})
-witnessCall b scratch s tuple =
-    withScratch b scratch (λ M. require (witnessRule M s tuple) 18 (witnessAnswer M s (used M (M .sigFunction s) tuple)))
+witnessCall b scratch s tuple = withScratch b scratch (witnessIn s tuple)
 
 -- "The body view hands back the part of the bundle that is the method's code."
 unfoldable pub bodyViewCall : List ℕ → ℕ → Answer (List ℕ)
 bodyViewCall b m = whenOpen b (λ M. require (ltb m (M .methods)) 18 (gives (codeOf b m)))
 
 -- "A run has a function, concrete argument classes and a step count of 32 bits."
+unfoldable pub runIn : ℕ → List ℕ → ℕ → Model → Answer Outcome
+runIn f tuple count M =
+    require (sendRule M f tuple && every (concreteClass M) (used M f tuple)) 18 (gives ((run M f (used M f tuple) count) .outcome))
+
 unfoldable pub runCall : List ℕ → ℕ → ℕ → List ℕ → ℕ → Answer Outcome
-runCall b scratch f tuple count =
-    withScratch b scratch
-    (λ M. require (sendRule M f tuple && every (concreteClass M) (used M f tuple)) 18 (gives ((run M f (used M f tuple) count) .outcome)))
+runCall b scratch f tuple count = withScratch b scratch (runIn f tuple count)
 
 -- the first n bytes are these, "later bytes untouched"
 unfoldable pub overwrite : ℕ → (ℕ → ℕ) → List ℕ → List ℕ

@@ -1,0 +1,63 @@
+-- The rule on a call's send, by its places.
+-- Assumes nothing.
+use Prim.Native.Nat.{ℕ, _≤_, _<_}
+use native.Mathlib.Omega.{arith}
+use mathlib.Core.Path.{_≡_, refl, sym, ap, subst, _∙_}
+use mathlib.Core.Bool.{Bool, true, false, _&&_}
+use mathlib.Core.List.{List, [], _∷_}
+use lib.Dec.{ltb, eqb}
+use lib.ListN.{length, getD, take}
+use borrow.Author.Tests.{lt-ltb, le-ltb, ltb-true}
+use Rattle.rules.specs.Bounded.{every}
+use Rattle.rules.specs.Layout.{Answer, gives, refuses, require, tupleRule, places}
+use Rattle.rules.specs.Model.{modelOf, present}
+use Rattle.rules.specs.Lookup.{Found, lookup}
+use Rattle.rules.specs.Calls.{sendRule, used, foundAnswer, lookupIn}
+use Rattle.rules.proofs.Lists.{and-left, and-right}
+use Rattle.layout.specs.Opened.{Opened}
+use Rattle.layout.specs.Tests.{placeRule}
+use Rattle.layout.specs.declared.bundle.Bundle.{Bundle}
+use Rattle.layout.proofs.Opened.{counts-of, wellformed-of}
+use Rattle.layout.proofs.Judged.{Judged, tuple-judged}
+use Rattle.curiumtoad.specs.Send.{placed}
+
+module _ {b : List ℕ} {t : Bundle} (o : Opened b t) (f : ℕ) (args : List ℕ) where
+  pub absent-function : t .functions ≤ f → sendRule (modelOf b) f args ≡ false
+  unfolding sendRule
+  absent-function h = rw (le-ltb f (modelOf b .functions) (rw (sym (counts-of o .functions)) h))
+
+  -- with the function present, the rule is judged place by place
+  pub send-judged : (n : ℕ) → f < t .functions → n ≡ modelOf b .arity f → length args ≡ places
+      → Judged (sendRule (modelOf b) f args) (λ i. placed (t .classes) n i (getD args i 0)) places
+  unfolding sendRule placed placeRule
+  send-judged n h q l =
+      rw (lt-ltb f (modelOf b .functions) (rw (sym (counts-of o .functions)) h), counts-of o .classes, q)
+      (subst (Judged (tupleRule (modelOf b .classes) (modelOf b .arity f) args) (placeRule (λ i. getD args i 0) (modelOf b .classes) (modelOf b .arity f))) l
+      (tuple-judged (modelOf b .classes) (modelOf b .arity f) args))
+
+  -- what a send that keeps the rule gives a lookup
+  pub send-function : sendRule (modelOf b) f args ≡ true → f < t .functions
+  unfolding sendRule
+  send-function e =
+      let h : f < modelOf b .functions = ltb-true f (modelOf b .functions) (search (and-left, and-right)) in
+      omega (arith, h, counts-of o .functions)
+
+  pub send-places : sendRule (modelOf b) f args ≡ true → length args ≡ places → modelOf b .arity f ≤ length args
+  unfolding sendRule
+  send-places e l =
+      let h : f < modelOf b .functions = ltb-true f (modelOf b .functions) (search (and-left, and-right)) in
+      omega (arith, wellformed-of o .arity-limit f h, l)
+
+  pub send-present : sendRule (modelOf b) f args ≡ true → present (modelOf b) (take (modelOf b .arity f) args) ≡ true
+  unfolding sendRule tupleRule present
+  send-present e = search (and-left, and-right)
+
+  -- the answers of a lookup
+  pub lookup-absent : sendRule (modelOf b) f args ≡ false → refuses 18 [] ≡ lookupIn f args (modelOf b)
+  unfolding lookupIn require
+  lookup-absent e = rw e
+
+  pub lookup-found : sendRule (modelOf b) f args ≡ true → {r : Found} → r ≡ lookup (modelOf b) f (take (modelOf b .arity f) args)
+      → foundAnswer f args r ≡ lookupIn f args (modelOf b)
+  unfolding lookupIn require used
+  lookup-found e q = rw (e, ← q)
