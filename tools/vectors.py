@@ -1,0 +1,295 @@
+#!/usr/bin/env python3
+"""Make the cases of the test programs: what each reads from standard input, and what it has to print.
+
+usage: tools/vectors.py FOLDER          write them, from the vectors of FOLDER (JSON lines), the cases of document 01 and the sample bundles
+       tools/vectors.py FOLDER --check  write nothing; say which differ, and exit with 1 if any does
+
+The opening rules of document 01 stand here a second time. They give the answers for bundles that no vector has, and every vector is held to them, so
+that an answer on which the two differ is never passed on.
+"""
+import itertools
+import json
+import pathlib
+import sys
+
+ROOT = pathlib.Path(__file__).resolve().parent.parent
+sys.dont_write_bytecode = True
+sys.path.insert(0, str(ROOT / "bundles"))
+import make  # noqa: E402
+
+LONGEST = 65535
+CLASSES, FUNCTIONS, SIGNATURES, METHODS, PLACES = 128, 64, 256, 512, 3
+ABSENT = 18
+
+
+# The rules
+
+
+def word(data, at):
+    return data[at] + 256 * data[at + 1]
+
+
+def spans(bundle):
+    """offset and length of each section"""
+    return [(word(bundle, at), word(bundle, at + 2)) for at in range(0, 24, 4)]
+
+
+def records(section, width):
+    return [section[at:at + width] for at in range(0, len(section), width)]
+
+
+def follow(lists, end):
+    """for each (offset, length): whether it begins where the one before it ends, lies within end, and, for the last, reaches it"""
+    at = 0
+    for k, (offset, length) in enumerate(lists):
+        at += length
+        yield offset + length == at <= end and (at == end or k + 1 < len(lists))
+
+
+def lowest(number, kept):
+    """the number and the record that is the first not to keep its rule, or nothing"""
+    return next(((number, [k]) for k, keeps in enumerate(kept) if not keeps), None)
+
+
+def opening(bundle):
+    """document 01's number, 0 where the bundle opens, with its values"""
+    if not 24 <= len(bundle) <= LONGEST:
+        return 1, []
+    sections, at = [], 24
+    for offset, length in spans(bundle):
+        if offset != at:
+            return 2, []
+        sections.append(bundle[at:at + length])
+        at += length
+    if at != len(bundle):
+        return 2, []
+    parents, code = sections[1], sections[5]
+    if any(len(sections[k]) % width for k, width in [(0, 6), (3, 5), (4, 12), (5, 2)]) or (code and not sections[4]):
+        return 2, []
+    classes, functions, signatures, methods = (records(sections[k], width) for k, width in [(0, 6), (2, 1), (3, 5), (4, 12)])
+    counts = [len(classes), len(functions), len(signatures), len(methods)]
+    if not classes or any(count > limit for count, limit in zip(counts, [CLASSES, FUNCTIONS, SIGNATURES, METHODS])):
+        return 3, []
+
+    def class_kept(k, record):
+        above = parents[word(record, 2):][:word(record, 4)]
+        rising = all(lower < higher for lower, higher in itertools.pairwise([*above, k]))
+        return record[0] <= 1 and record[1] == 0 and rising and (k == 0) == (word(record, 4) == 0)
+
+    def places_kept(function, places):
+        arity = functions[function][0]
+        return all(c < len(classes) for c in places[:arity]) and not any(places[arity:])
+
+    def signature_kept(record):
+        return record[0] < len(functions) and places_kept(record[0], record[1:4]) and record[4] < len(classes)
+
+    def method_kept(record):
+        if record[0] >= len(functions) or record[7] >= len(classes) or word(record, 10) not in range(2, 129, 2):
+            return False
+        return places_kept(record[0], record[1:4]) and places_kept(record[0], record[4:7])
+
+    def applies_to(record):
+        """the function and the specialisers"""
+        return record[:4]
+
+    def instruction_kept(function, operation, operand):
+        limits = [functions[function][0], len(classes), len(functions)]
+        return operation < len(limits) and operand < limits[operation]
+
+    lists = list(follow([(word(record, 2), word(record, 4)) for record in classes], len(parents)))
+    bodies = list(follow([(word(record, 8), word(record, 10)) for record in methods], len(code)))
+    # Each rule is judged only where the ones before it hold, since a later one reads what an earlier one makes sure is there.
+    rules = [
+        lambda: lowest(4, (class_kept(k, record) and lists[k] for k, record in enumerate(classes))),
+        lambda: lowest(5, (record[0] <= PLACES for record in functions)),
+        lambda: lowest(6, (signature_kept(record) for record in signatures)),
+        lambda: lowest(7, (method_kept(record) and bodies[k] for k, record in enumerate(methods))),
+        lambda: lowest(8, (applies_to(record) not in map(applies_to, methods[:k]) for k, record in enumerate(methods))),
+        lambda: lowest(9, (
+            all(instruction_kept(record[0], *instruction) for instruction in records(code[word(record, 8):][:word(record, 10)], 2))
+            for record in methods)),
+    ]
+    return next(filter(None, (rule() for rule in rules)), (0, counts))
+
+
+def refused(number, values):
+    """what a view answers for a bundle that does not open: the number, and the record it names, with an empty part"""
+    return number, values[0] if values else 0, 0
+
+
+def view(bundle, method):
+    """number, then the part's start and length; for a refusal the record it names, or 0, and 0"""
+    number, values = opening(bundle)
+    if number:
+        return refused(number, values)
+    if method >= values[3]:
+        return ABSENT, 0, 0
+    record = bundle[spans(bundle)[4][0] + 12 * method:][:12]
+    return 0, spans(bundle)[5][0] + word(record, 8), word(record, 10)
+
+
+# Bundles that no vector has
+
+
+def chain(count):
+    """classes of one parent each"""
+    return [(make.CONCRETE, [k - 1] if k else []) for k in range(count)]
+
+
+def at_limits(classes, filled=0):
+    """what make.bundle takes, for as many records of each kind as there may be; filled instructions are put into bodies beside the one of each"""
+    arities = [1 + f % PLACES for f in range(FUNCTIONS)]
+    signatures, methods = [], []
+    for s in range(SIGNATURES):
+        f = s % FUNCTIONS
+        signatures.append((f, [s % CLASSES] * arities[f], s % CLASSES))
+    for m in range(METHODS):
+        f, c = m % FUNCTIONS, m % CLASSES
+        more = min(filled, 63)
+        filled -= more
+        body = [[(make.ARG, i % arities[f]), (make.NEW, i % CLASSES), (make.SEND, i % FUNCTIONS)][i % 3] for i in range(1 + more)]
+        # The first specialiser tells the methods of a function apart.
+        methods.append((f, [m // FUNCTIONS, c, CLASSES - 1 - c][:arities[f]], [c] * arities[f], c, body))
+    return [classes, arities, signatures, methods]
+
+
+def broken_at_the_last_record():
+    """(bundle, number, record) for the rules 4 to 9, each broken by the last record that may be there"""
+    for number, section, broken in [
+        (4, 0, lambda kind, above: (2, above)),
+        (5, 1, lambda arity: PLACES + 1),
+        (6, 2, lambda f, places, result: (f, places, CLASSES)),
+        (7, 3, lambda f, places, declared, result, body: (f, places, declared, CLASSES, body)),
+        # Its specialisers become those of the method before it of the same function.
+        (8, 3, lambda f, places, declared, result, body: (f, [places[0] - 1], declared, result, body)),
+        (9, 3, lambda f, places, declared, result, body: (f, places, declared, result, [(make.NEW, CLASSES)])),
+    ]:
+        sections = at_limits(chain(CLASSES))
+        last = sections[section][-1]
+        sections[section][-1] = broken(*last) if isinstance(last, tuple) else broken(last)
+        yield make.bundle(*sections), number, len(sections[section]) - 1
+
+
+def longest():
+    """a bundle of 65,535 bytes, and one of 65,536 that has one parent more"""
+    every = [(make.CONCRETE, list(range(k))) for k in range(CLASSES)]
+    filled = (LONGEST + 1 - len(make.bundle(*at_limits(every)))) // 2
+    too_long = make.bundle(*at_limits(every, filled))
+    every[-1] = (make.CONCRETE, every[-1][1][1:])
+    long = make.bundle(*at_limits(every, filled))
+    assert (len(long), len(too_long)) == (LONGEST, LONGEST + 1)
+    return long, too_long
+
+
+def of_document_01():
+    """(bundle, number, values) for the cases of document 01 that opening answers, and for bundles at the limits"""
+    alone = make.SAMPLES["one-class"]
+    assert len(alone) == 30
+    yield alone[:23], 1, []
+    yield make.bundle([]), 3, []
+    yield alone, 0, [1, 0, 0, 0]
+    yield make.bundle(chain(CLASSES)), 0, [CLASSES, 0, 0, 0]
+    yield make.bundle(chain(CLASSES + 1)), 3, []
+    long, too_long = longest()
+    yield long, 0, [CLASSES, FUNCTIONS, SIGNATURES, METHODS]
+    yield too_long, 1, []
+    yield make.bundle(*at_limits(chain(CLASSES))), 0, [CLASSES, FUNCTIONS, SIGNATURES, METHODS]
+    for bundle, number, record in broken_at_the_last_record():
+        yield bundle, number, [record]
+
+
+# The cases, and the files
+
+
+def vectors(folder, name):
+    for line in (folder / name).read_text().splitlines():
+        entry = json.loads(line)
+        yield entry, bytes.fromhex(entry["bundle"])
+
+
+def opening_vectors(folder):
+    """(bundle, number, values)"""
+    for entry, bundle in vectors(folder, "opening.jsonl"):
+        yield bundle, entry["answer"]["number"], entry["answer"]["values"]
+
+
+def opening_cases(folder):
+    """(bundle, number, values)"""
+    yield from opening_vectors(folder)
+    yield from of_document_01()
+    for bundle in make.SAMPLES.values():
+        yield bundle, *opening(bundle)
+
+
+def view_cases(folder):
+    """(bundle, [(method, number, start, length)])"""
+    for entry, bundle in vectors(folder, "view.jsonl"):
+        calls = []
+        for call in entry["calls"]:
+            answer = call["answer"]
+            calls.append((call["view"][0], answer["number"], answer.get("start", 0), answer.get("length", 0)))
+        yield bundle, calls
+    for bundle in make.SAMPLES.values():
+        methods = opening(bundle)[1][3]
+        yield bundle, [(m, *view(bundle, m)) for m in [*range(methods), methods, LONGEST]]
+    long, too_long = longest()
+    for bundle in [long, too_long]:
+        yield bundle, [(m, *view(bundle, m)) for m in [0, 1, 255, 256, METHODS - 1, METHODS]]
+    # A view opens the bundle first: it refuses what opening refuses.
+    for bundle, number, values in opening_vectors(folder):
+        if number:
+            yield bundle, [(0, *refused(number, values))]
+
+
+def little_endian(width, *numbers):
+    return b"".join(n.to_bytes(width, "little") for n in numbers)
+
+
+def held(bundle, expected, second):
+    """stops where an expected answer is not the one that the rules give"""
+    if expected != second:
+        sys.exit(f"answers differ: {expected} expected, {second} by the rules, for the bundle {bundle.hex()[:200]}")
+
+
+def opening_stream(folder):
+    stream, count = b"", 0
+    for bundle, number, values in opening_cases(folder):
+        held(bundle, (number, values), opening(bundle))
+        stream += little_endian(3, len(bundle)) + bundle + bytes([number]) + little_endian(2, *values, *[0] * (4 - len(values)))
+        count += 1
+    return stream, count
+
+
+def view_stream(folder):
+    stream, count = b"", 0
+    for bundle, calls in view_cases(folder):
+        stream += little_endian(3, len(bundle)) + bundle + little_endian(2, len(calls))
+        for method, *answer in calls:
+            held(bundle, tuple(answer), view(bundle, method))
+            number, start, length = answer
+            stream += little_endian(2, method) + bytes([number]) + little_endian(3, start) + little_endian(2, length)
+            count += 1
+    return stream, count
+
+
+def main():
+    folders = [argument for argument in sys.argv[1:] if argument != "--check"]
+    if len(folders) != 1:
+        sys.exit(__doc__)
+    folder = pathlib.Path(folders[0])
+    wanted = {}
+    for name, (stream, count) in [("opening", opening_stream(folder)), ("view", view_stream(folder))]:
+        crate = ROOT / "crates" / f"{name}_cases"
+        wanted[crate / "stdin"] = stream
+        wanted[crate / "stdout"] = f"{name} cases {count} differing 0\n".encode()
+    if "--check" in sys.argv[1:]:
+        differing = [path for path, content in wanted.items() if not path.exists() or path.read_bytes() != content]
+        for path in differing:
+            print(f"differs: {path.relative_to(ROOT)}")
+        sys.exit(1 if differing else 0)
+    for path, content in wanted.items():
+        path.write_bytes(content)
+
+
+if __name__ == "__main__":
+    main()
