@@ -1,2 +1,4 @@
 pub mod Writing
 pub mod Rows
+pub mod Classes
+pub mod Sends

@@ -3,13 +3,15 @@ use dispatch::matrix::ROW;
 use dispatch::matrix::under;
 use layout::bundle::Bundle;
 ghost use mathlib.Core.Path.{_≡_};
-ghost use Prim.Native.Nat.{_<_, _≤_};
-ghost use lib.ListN.{length};
-ghost use Rattle.rules.specs.Model.{modelOf};
+ghost use mathlib.Core.Bool.{true};
+ghost use mathlib.Core.List.{[], _∷_};
+ghost use Prim.Native.Nat.{_*_, _<_, _≤_};
+ghost use lib.ListN.{length, take};
+ghost use Rattle.rules.specs.Model.{modelOf, present};
 ghost use Rattle.rules.specs.Calls.{rowBytes, overwrite};
 ghost use Rattle.layout.specs.Opened.{Opened};
 ghost use Rattle.dispatch.specs.Matrix.{Filled};
-ghost use Rattle.typing.specs.Rows.{noByte, sameByte, joined, joinedByte};
+ghost use Rattle.typing.specs.Rows.{typeByte, noByte, sameByte, joined, joinedByte, Rows, classTypes};
 
 // Makes the row that of the empty type.
 pub fn clear(row: &mut [u8])
@@ -65,5 +67,41 @@ pub fn join(bytes: &[u8], b: Bundle, scratch: &[u8], c: usize, row: &mut [u8])
         let v = join_byte(bytes, b, scratch, c, k, row[k]);
         row[k] = v;
         k += 1;
+    }
+}
+
+// Makes the row that of class c's type.
+pub fn class_row(bytes: &[u8], b: Bundle, scratch: &[u8], c: usize, row: &mut [u8])
+    requires { ⌜ Opened (now bytes) b ⌝ }
+    requires { ⌜ Filled (modelOf (now bytes)) (now scratch) ⌝ }
+    requires { ⌜ c < b .classes ⌝ }
+    requires { ⌜ rowBytes ≤ length (now row) ⌝ }
+    ensures { λ _. ⌜ now (row .exit) ≡ overwrite rowBytes (typeByte (modelOf (now (bytes .entry))) (c ∷ [])) (now (row .entry)) ⌝ }
+{
+    clear(row);
+    join(bytes, b, scratch, c, row);
+}
+
+// Writes the rows of the types of the first n classes.
+pub fn class_rows(
+    bytes: &[u8],
+    b: Bundle,
+    scratch: &[u8],
+    n: usize,
+    args: &[usize],
+    rows: &mut [u8],
+)
+    requires { ⌜ Opened (now bytes) b ⌝ }
+    requires { ⌜ Filled (modelOf (now bytes)) (now scratch) ⌝ }
+    requires { ⌜ n ≤ length (now args) ⌝ }
+    requires { ⌜ present (modelOf (now bytes)) (take n (now args)) ≡ true ⌝ }
+    requires { ⌜ rowBytes * n ≤ length (now rows) ⌝ }
+    ensures { λ _. ⌜ Rows (modelOf (now (bytes .entry))) (now (rows .exit)) (classTypes (take n (now (args .entry)))) ⌝ }
+{
+    let mut i = 0;
+    while i < n {
+        let at = ROW * i;
+        class_row(bytes, b, scratch, args[i], &mut rows[at..]);
+        i += 1;
     }
 }
