@@ -12,7 +12,7 @@ use borrow.Author.Tests.{eq-eqb, ne-eqb}
 use Rattle.rules.specs.Bounded.{upto, keep, matching}
 use Rattle.rules.specs.Model.{Model}
 use Rattle.rules.specs.Types.{Static, inType, licenses, licensing, sendType}
-use Rattle.rules.specs.Calls.{rowBytes, overwrite, bit}
+use Rattle.rules.specs.Calls.{rowBytes, overwrite, bit, licensed, rowOn}
 use Rattle.rules.proofs.Lists.{keep-upto-hit, keep-upto-miss, matching-at, matching-from}
 use Rattle.typing.specs.Rows.{typeByte, noByte, joinedByte, Rows}
 use Rattle.typing.specs.Sends.{licensesFor, inhabited, Licensed, Sent}
@@ -157,3 +157,14 @@ module _ (M : Model) (rows : List ℕ) (f : ℕ) (start : List ℕ) where
             rw (type-to-all M f types) at (p .held types r n)
             ∙ rw e (overwrite-twice rowBytes (typeByte M (sendType M f types)) noByte old);
       }
+
+-- the row that the call leaves, with a licence and without
+pub licensed-row : (M : Model) (t : Static) (row : List ℕ) → inhabited t ≡ true → overwrite rowBytes (typeByte M t) row ≡ rowOn (licensed t) M row
+unfolding inhabited licensed rowOn typeByte
+licensed-row M [] row e = absurd (false≢true e)
+licensed-row M (c ∷ t) row e = refl
+
+pub unlicensed-row : (M : Model) (t : Static) (row : List ℕ) → inhabited t ≡ false → row ≡ rowOn (licensed t) M row
+unfolding inhabited licensed rowOn
+unlicensed-row M [] row e = refl
+unlicensed-row M (c ∷ t) row e = absurd (false≢true (sym e))

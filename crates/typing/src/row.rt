@@ -7,6 +7,7 @@ ghost use mathlib.Core.Bool.{true};
 ghost use mathlib.Core.List.{[], _∷_};
 ghost use Prim.Native.Nat.{_*_, _<_, _≤_};
 ghost use lib.ListN.{length, take};
+ghost use Rattle.rules.specs.Layout.{places};
 ghost use Rattle.rules.specs.Model.{modelOf, present};
 ghost use Rattle.rules.specs.Calls.{rowBytes, overwrite};
 ghost use Rattle.layout.specs.Opened.{Opened};
@@ -104,4 +105,18 @@ pub fn class_rows(
         class_row(bytes, b, scratch, args[i], &mut rows[at..]);
         i += 1;
     }
+}
+
+// A row of no type yet.
+pub fn one_row() -> [u8; 128]
+    ensures { λ r. ⌜ rowBytes ≡ length r ⌝ }
+{
+    [0; 128]
+}
+
+// A row for each argument that a send may have.
+pub fn argument_rows() -> [u8; 384]
+    ensures { λ r. ⌜ rowBytes * places ≡ length r ⌝ }
+{
+    [0; 384]
 }

@@ -1,8 +1,10 @@
 // The type of a send whose arguments' types stand in rows, row i that of argument i.
+use crate::row::argument_rows;
 use crate::row::class_rows;
 use crate::row::clear;
 use crate::row::copy;
 use crate::row::join;
+use crate::row::one_row;
 use dispatch::matrix::ROW;
 use layout::bundle::Bundle;
 use layout::field::arity;
@@ -75,4 +77,33 @@ pub fn send_row(
         s += 1;
     }
     found
+}
+
+// Writes the row of the type of a send of f with arguments of these classes, and says that it did: not where no signature licenses it.
+pub fn send_type(
+    bytes: &[u8],
+    b: Bundle,
+    scratch: &[u8],
+    f: usize,
+    args: &[usize],
+    row: &mut [u8],
+) -> bool
+    requires { ⌜ Opened (now bytes) b ⌝ }
+    requires { ⌜ Filled (modelOf (now bytes)) (now scratch) ⌝ }
+    requires { ⌜ f < b .functions ⌝ }
+    requires { ⌜ modelOf (now bytes) .arity f ≤ length (now args) ⌝ }
+    requires { ⌜ present (modelOf (now bytes)) (take (modelOf (now bytes) .arity f) (now args)) ≡ true ⌝ }
+    requires { ⌜ rowBytes ≤ length (now row) ⌝ }
+    ensures { λ r. ⌜ (let M = modelOf (now (bytes .entry)) in r ≡ inhabited (sendType M f (classTypes (take (M .arity f) (now (args .entry)))))) ⌝ }
+    ensures { λ r. ⌜ (let M = modelOf (now (bytes .entry)) in now (row .exit) ≡ rowOn (licensed (sendType M f (classTypes (take (M .arity f) (now (args .entry)))))) M (now (row .entry))) ⌝ }
+{
+    let n = arity(bytes, b, f);
+    let mut rows = argument_rows();
+    class_rows(bytes, b, scratch, n, args, &mut rows);
+    let mut sent = one_row();
+    if send_row(bytes, b, scratch, &rows, f, &mut sent) {
+        copy(&sent, row);
+        return true;
+    }
+    false
 }
