@@ -20,12 +20,12 @@ use Rattle.typing.proofs.Writing.{overwrite-twice}
 use Rattle.typing.proofs.Rows.{row-empty, row-joined}
 
 -- a bit as it is asked
-bit-zero : (t : Bool) → bit t ≡ 0 → t ≡ false
+pub bit-zero : (t : Bool) → bit t ≡ 0 → t ≡ false
 unfolding bit
 bit-zero true e = absurd (omega (arith, e))
 bit-zero false e = refl
 
-bit-other : (t : Bool) → (bit t ≡ 0 → ⊥) → t ≡ true
+pub bit-other : (t : Bool) → (bit t ≡ 0 → ⊥) → t ≡ true
 unfolding bit
 bit-other true h = refl
 bit-other false h = absurd (h refl)

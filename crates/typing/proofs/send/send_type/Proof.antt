@@ -13,14 +13,6 @@ use Rattle.typing.proofs.Sends.{licensed-row, unlicensed-row}
 use borrow.Author.Needs.{needs}
 use Rattle.typing.proofs.send.send_type.Statement.{statement}
 use Rattle.typing.proofs.send.send_type.Tie as tie
-use Rattle.typing.proofs.send.send_type.Reads as reads
-use Rattle.typing.proofs.send.send_type.Lts as lts
-use Rattle.layout.proofs.field.arity.Reads as arity-reads
-use Rattle.typing.proofs.row.argument_rows.Reads as argument-rows-reads
-use Rattle.typing.proofs.row.class_rows.Reads as class-rows-reads
-use Rattle.typing.proofs.row.copy.Reads as copy-reads
-use Rattle.typing.proofs.row.one_row.Reads as one-row-reads
-use Rattle.typing.proofs.send.send_row.Reads as send-row-reads
 
 arity-requires : tie.Need-arity-requires
 arity-requires c κs = search needs
