@@ -11,7 +11,7 @@ use lib.Dec.{leb}
 use lib.Seq.{length-take-le, drop-cons}
 use borrow.Author.Tests.{le-leb, lt-leb}
 use Rattle.rules.specs.Model.{Model, Instr, arg, new, send}
-use Rattle.rules.specs.Types.{Static, Typing, typed, breaks, Effect, leaves, breaksBy, arguments, argType, sendType, sendEffect, effect, afterEffect, inType, ending, typeFrom, typeBody}
+use Rattle.rules.specs.Types.{Static, typed, breaks, Effect, leaves, breaksBy, arguments, argType, sendType, sendEffect, effect, afterEffect, inType, ending, typeFrom, typeBody}
 use Rattle.rules.specs.Calls.{rowBytes, overwrite, bit}
 use Rattle.typing.specs.Rows.{typeByte, Rows, stacked}
 use Rattle.typing.specs.Sends.{inhabited, Sent}

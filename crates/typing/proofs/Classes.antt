@@ -3,18 +3,18 @@
 use Prim.Native.Nat.{ℕ, _+_, _*_, _≤_, _<_}
 use native.Mathlib.Numerals.{add-one}
 use native.Mathlib.Omega.{arith}
-use mathlib.Core.Path.{_≡_, refl, sym, ap, _∙_}
+use mathlib.Core.Path.{_≡_, _∙_}
 use mathlib.Core.Bool.{true}
-use mathlib.Core.List.{List, [], _∷_, _++_, map}
+use mathlib.Core.List.{List, [], _∷_, _++_}
 use lib.Dec.{ltb}
 use lib.ListN.{length, getD, take, length-map}
 use lib.Seq.{length-take-le, take-suc, getD-take}
 use borrow.Author.Tests.{ltb-true}
 use Rattle.rules.specs.Model.{Model, present}
-use Rattle.rules.specs.Types.{Static}
 use Rattle.rules.specs.Calls.{rowBytes}
 use Rattle.rules.proofs.Lists.{every-place}
 use Rattle.typing.specs.Rows.{Rows, stacked, classTypes}
+use Rattle.typing.proofs.Writing.{map-snoc}
 use Rattle.typing.proofs.Rows.{rows-none, rows-push}
 
 -- a class at a place below n is present where the first n are
@@ -27,10 +27,6 @@ present-at M n args e l i h =
 pub class-types-length : (n : ℕ) (args : List ℕ) → n ≤ length args → length (classTypes (take n args)) ≡ n
 unfolding classTypes
 class-types-length n args h = length-map (take n args) (λ c. c ∷ []) ∙ length-take-le n args h
-
-map-snoc : (f : ℕ → Static) (xs : List ℕ) (x : ℕ) → map f (xs ++ (x ∷ [])) ≡ map f xs ++ (f x ∷ [])
-map-snoc f [] x = refl
-map-snoc f (y ∷ ys) x = ap (λ (l : List Static). f y ∷ l) (map-snoc f ys x)
 
 class-types-more : (i : ℕ) (args : List ℕ) → i < length args
     → classTypes (take (i + 1) args) ≡ classTypes (take i args) ++ ((getD args i 0 ∷ []) ∷ [])

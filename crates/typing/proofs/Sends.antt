@@ -1,6 +1,6 @@
 -- Licences place by place, and the type of a send signature by signature.
 -- Assumes nothing.
-use Prim.Native.Nat.{ℕ, _+_, _*_, _≤_, _<_}
+use Prim.Native.Nat.{ℕ, _+_, _*_, _<_}
 use native.Mathlib.Omega.{arith}
 use mathlib.Core.Path.{_≡_, refl, sym, ap, _∙_}
 use mathlib.Core.Bool.{Bool, true, false, _&&_, false≢true}
@@ -16,7 +16,7 @@ use Rattle.rules.specs.Calls.{rowBytes, overwrite, bit, licensed, rowOn}
 use Rattle.rules.proofs.Lists.{keep-upto-hit, keep-upto-miss, matching-at, matching-from}
 use Rattle.typing.specs.Rows.{typeByte, noByte, joinedByte, Rows}
 use Rattle.typing.specs.Sends.{licensesFor, inhabited, Licensed, Sent}
-use Rattle.typing.proofs.Writing.{overwrite-twice}
+use Rattle.typing.proofs.Writing.{map-snoc, overwrite-twice}
 use Rattle.typing.proofs.Rows.{row-empty, row-joined}
 
 -- a bit as it is asked
@@ -85,10 +85,6 @@ module _ (M : Model) (rows : List ℕ) (f s : ℕ) where
 -- the type that the first s signatures give the send
 unfoldable pub typeTo : Model → ℕ → List Static → ℕ → Static
 typeTo M f types s = map (M .sigResult) (keep (licensesFor M f types) (upto s))
-
-map-snoc : (g : ℕ → ℕ) (xs : List ℕ) (x : ℕ) → map g (xs ++ (x ∷ [])) ≡ map g xs ++ (g x ∷ [])
-map-snoc g [] x = refl
-map-snoc g (y ∷ ys) x = ap (λ (l : List ℕ). g y ∷ l) (map-snoc g ys x)
 
 inhabited-snoc : (t : Static) (c : ℕ) → true ≡ inhabited (t ++ (c ∷ []))
 unfolding inhabited

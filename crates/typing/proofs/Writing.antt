@@ -11,6 +11,11 @@ use Rattle.rules.specs.Calls.{rowBytes, overwrite}
 use Rattle.rules.proofs.Lists.{length-upto, upto-below}
 use Rattle.rules.proofs.Overwrite.{overwrite-none, overwrite-more, overwrite-length, overwrite-later}
 
+-- a map over a list with one element more, and two maps that agree on the elements
+pub map-snoc : {A B : Type 0} (f : A → B) (xs : List A) (x : A) → map f (xs ++ (x ∷ [])) ≡ map f xs ++ (f x ∷ [])
+map-snoc f [] x = refl
+map-snoc f (y ∷ ys) x = rw (map-snoc f ys x)
+
 map-agree : (f g : ℕ → ℕ) (xs : List ℕ) → ((k : ℕ) → List·Memᴰ k xs → f k ≡ g k) → map f xs ≡ map g xs
 map-agree f g [] h = refl
 map-agree f g (x ∷ xs) h = rw (h x (List·Memᴰ·head refl), map-agree f g xs (λ k m. h k (List·Memᴰ·tail m)))

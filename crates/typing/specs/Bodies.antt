@@ -4,7 +4,7 @@ use Prim.Native.Nat.{ℕ}
 use mathlib.Core.Path.{_≡_}
 use mathlib.Core.List.{List, reverse}
 use lib.ListN.{length}
-use Rattle.rules.specs.Model.{Model, Instr}
+use Rattle.rules.specs.Model.{Model, Instr, send}
 use Rattle.rules.specs.Types.{Static, Typing, typed, breaks, Effect, leaves, breaksBy, effect, ending}
 use Rattle.typing.specs.Rows.{Rows}
 use Rattle.typing.specs.declared.body.Typing.{Typing as BodyTyping}
@@ -32,6 +32,10 @@ Agrees M rows (BreaksBy number) (breaksBy other) = number ≡ other
 -- what the instruction does to whatever stack the rows hold
 pub record Applied (M : Model) (m : ℕ) (i : Instr) (old : List ℕ) (h : ℕ) (new : List ℕ) (r : BodyEffect) : Type 0 where
   pub agrees : (stack : List Static) → Stack M old h stack → Agrees M new r (effect M m stack i)
+
+-- a send does the same in every method
+pub record AppliedSend (M : Model) (f : ℕ) (old : List ℕ) (h : ℕ) (new : List ℕ) (r : BodyEffect) : Type 0 where
+  pub in-method : (m : ℕ) → Applied M m (send f) old h new r
 
 -- what the end of the body says to whatever stack the rows hold
 pub record Ended (M : Model) (m at : ℕ) (rows : List ℕ) (h : ℕ) (r : BodyTyping) : Type 0 where

@@ -19,14 +19,14 @@ ghost use mathlib.Core.Bool.{true};
 ghost use Prim.Native.Nat.{_+_, _*_, _<_, _≤_};
 ghost use lib.ListN.{length};
 ghost use Rattle.rules.specs.Layout.{places};
-ghost use Rattle.rules.specs.Model.{modelOf, operandRule, send};
+ghost use Rattle.rules.specs.Model.{modelOf, operandRule};
 ghost use Rattle.rules.specs.Types.{argType, typeBody};
 ghost use Rattle.rules.specs.Calls.{rowBytes, overwrite};
 ghost use Rattle.layout.specs.Instruction.{instr};
 ghost use Rattle.layout.specs.Opened.{Opened};
 ghost use Rattle.dispatch.specs.Matrix.{Filled};
 ghost use Rattle.typing.specs.Rows.{typeByte};
-ghost use Rattle.typing.specs.Bodies.{typingOf, Applied, Ended};
+ghost use Rattle.typing.specs.Bodies.{typingOf, Applied, AppliedSend, Ended};
 
 // What the check says of a body: it types, or breaks by a number at an instruction.
 pub enum Typing {
@@ -35,7 +35,7 @@ pub enum Typing {
 }
 
 // What an instruction does: it leaves so many types, or breaks by a number.
-pub enum Effect {
+enum Effect {
     Leaves(usize),
     BreaksBy(u8),
 }
@@ -58,7 +58,6 @@ fn apply_send(
     bytes: &[u8],
     b: Bundle,
     scratch: &[u8],
-    m: usize,
     f: usize,
     rows: &mut [u8],
     h: usize,
@@ -67,17 +66,19 @@ fn apply_send(
     requires { ⌜ Filled (modelOf (now bytes)) (now scratch) ⌝ }
     requires { ⌜ f < b .functions ⌝ }
     requires { ⌜ rowBytes * h + rowBytes ≤ length (now rows) ⌝ }
-    ensures { λ r. ⌜ Applied (modelOf (now (bytes .entry))) m (send f) (now (rows .entry)) h (now (rows .exit)) r ⌝ }
+    ensures { λ r. ⌜ AppliedSend (modelOf (now (bytes .entry))) f (now (rows .entry)) h (now (rows .exit)) r ⌝ }
 {
     let n = arity(bytes, b, f);
     if h < n {
         return Effect::BreaksBy(14);
     }
-    let at = ROW * (h - n);
+    let below = h - n;
+    let at = ROW * below;
+    let left = below + 1;
     let mut sent = one_row();
     if send_row(bytes, b, scratch, &rows[at..], f, &mut sent) {
         copy(&sent, &mut rows[at..]);
-        return Effect::Leaves(h - n + 1);
+        return Effect::Leaves(left);
     }
     Effect::BreaksBy(16)
 }
@@ -100,20 +101,21 @@ fn apply(
     ensures { λ r. ⌜ Applied (modelOf (now (bytes .entry))) m (instr i) (now (rows .entry)) h (now (rows .exit)) r ⌝ }
 {
     let at = ROW * h;
+    let left = h + 1;
     match i {
         Instruction::Arg(place) => {
             arg_row(bytes, b, scratch, m, place, &mut rows[at..]);
-            return Effect::Leaves(h + 1);
+            return Effect::Leaves(left);
         }
         Instruction::New(c) => {
             if is_concrete(bytes, b, c) {
                 class_row(bytes, b, scratch, c, &mut rows[at..]);
-                return Effect::Leaves(h + 1);
+                return Effect::Leaves(left);
             }
             return Effect::BreaksBy(15);
         }
         Instruction::Send(f) => {
-            return apply_send(bytes, b, scratch, m, f, rows, h);
+            return apply_send(bytes, b, scratch, f, rows, h);
         }
     }
 }

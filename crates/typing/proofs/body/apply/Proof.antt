@@ -1,7 +1,5 @@
 -- `typing::body::apply` meets its contract: each instruction by its case.
 -- Assumes nothing.
-use Prim.Native.Nat.{ℕ}
-use native.Mathlib.Omega.{arith}
 use mathlib.Core.Path.{_≡_, sym, ap, _∙_}
 use Rattle.rules.specs.Model.{arg, new, send}
 use Rattle.layout.specs.Instruction.{instr}
@@ -14,6 +12,9 @@ use Rattle.typing.proofs.body.apply.Tie as tie
 
 mul-at : tie.Need-mul-at
 mul-at c = search needs
+
+add-left : tie.Need-add-left
+add-left c = search needs
 
 enum-known-i : tie.Need-enum-known-i
 enum-known-i c = search needs
@@ -45,9 +46,6 @@ arg-row-requires c κs =
     let g = c .before .before .before .before .before .before .before in
     let place = operand-arg (g .pre .0) _ (g .pre .1 .1 .0) _ (g .pre .1 .1 .1 .0) _ (is-arg (c .before .before)) in
     (g .pre .0, (g .pre .1 .0, (g .pre .1 .1 .0, (place, lent-long (g .args .h) (g .args .rows .now) (g .pre .1 .1 .1 .1)))))
-
-add-t14 : tie.Need-add-t14
-add-t14 c = search needs
 
 same-length : tie.Need-same-length
 same-length c = search needs
@@ -81,9 +79,6 @@ class-row-requires c κs =
     let class = operand-new (g .pre .0) _ (g .pre .1 .1 .0) _ (g .pre .1 .1 .1 .0) _ (is-new (c .before .before .before .before)) in
     (g .pre .0, (g .pre .1 .0, (class, lent-long (g .args .h) (g .args .rows .now) (g .pre .1 .1 .1 .1))))
 
-add-t20 : tie.Need-add-t20
-add-t20 c = search needs
-
 same-length-2 : tie.Need-same-length-2
 same-length-2 c = search needs
 
@@ -112,19 +107,19 @@ same-length-3 : tie.Need-same-length-3
 same-length-3 c = search needs
 
 returns-4 : tie.Need-returns-4
-returns-4 c = rw (is-send (c .before .before .before .before .before)) (c .before .before .«apply-send» .ensures)
+returns-4 c = rw (is-send (c .before .before .before .before .before)) (c .before .before .«apply-send» .ensures .in-method _)
 
 pub apply-spec : {M : Type 1} → statement M
 apply-spec =
     tie.close
     (tie.spec
     mul-at
+    add-left
     enum-known-i
     sub-arg-row
     part-arg-row-start
     part-arg-row-end
     arg-row-requires
-    add-t14
     same-length
     returns
     enum-known-i-2
@@ -133,7 +128,6 @@ apply-spec =
     part-class-row-start
     part-class-row-end
     class-row-requires
-    add-t20
     same-length-2
     returns-2
     returns-3

@@ -1,12 +1,9 @@
 -- `typing::body::apply_send` meets its contract: the rows from the first argument's on hold the arguments, and the send's row takes the first one's place.
 -- Assumes nothing.
-use Prim.Native.Nat.{ℕ, _*_, _-_}
+use Prim.Native.Nat.{_-_}
 use native.Mathlib.Omega.{arith}
-use mathlib.Core.Path.{_≡_, sym, ap, _∙_}
-use lib.ListN.{length, drop, length-drop}
-use Rattle.rules.specs.Model.{modelOf}
-use Rattle.rules.specs.Calls.{rowBytes}
-use Rattle.typing.specs.Sends.{Sent}
+use mathlib.Core.Path.{_∙_}
+use lib.ListN.{length-drop}
 use Rattle.typing.proofs.Rows.{row-copied, lent-part, lent-back}
 use Rattle.typing.proofs.Bodies.{applied-few, applied-none, applied-send}
 use borrow.Author.Needs.{needs}
@@ -19,10 +16,13 @@ arity-requires c κs = search needs
 returns : tie.Need-returns
 returns c =
     let n = c .before .arity .ensures .0 in
-    applied-few _ _ _ _ _ (omega arith)
+    record { in-method = λ m. applied-few _ m _ _ _ (omega arith) }
 
 mul-at : tie.Need-mul-at
 mul-at c = search needs
+
+add-left : tie.Need-add-left
+add-left c = search needs
 
 one-row-requires : tie.Need-one-row-requires
 one-row-requires c κs = search needs
@@ -66,9 +66,6 @@ part-copy-end c = search needs
 copy-requires : tie.Need-copy-requires
 copy-requires c κs = search needs
 
-add-t27 : tie.Need-add-t27
-add-t27 c = search needs
-
 same-length : tie.Need-same-length
 same-length c = search needs
 
@@ -79,8 +76,11 @@ returns-2 c =
     let n = a .before .before .before .before .before .before .arity in
     let h = g .args .h - n .result in
     let sent = rw (lent-part h (g .args .rows .now), c .before .before .before .before .before .if2 .taken) at (a .«send-row» .ensures) in
-    applied-send _ _ (g .args .rows .now) (g .args .h) (g .args .f) (n .result) (n .ensures .0) (omega arith) _ _ _ (g .pre .1 .1 .1) sent
-    (λ t e. lent-back _ t h (g .args .rows .now) _ (c .before .before .copy .ensures ∙ row-copied _ t _ _ _ e))
+    record {
+      in-method = λ m.
+          applied-send _ m (g .args .rows .now) (g .args .h) (g .args .f) (n .result) (n .ensures .0) (omega arith) _ _ _ (g .pre .1 .1 .1) sent
+          (λ t e. lent-back _ t h (g .args .rows .now) _ (c .before .before .copy .ensures ∙ row-copied _ t _ _ _ e));
+    }
 
 same-length-2 : tie.Need-same-length-2
 same-length-2 c = search needs
@@ -92,7 +92,7 @@ returns-3 c =
     let n = a .before .before .before .before .before .before .arity in
     let h = g .args .h - n .result in
     let sent = rw (lent-part h (g .args .rows .now), c .if2 .left) at (a .«send-row» .ensures) in
-    applied-none _ _ (g .args .rows .now) (g .args .h) (g .args .f) (n .result) (n .ensures .0) (omega arith) _ _ sent
+    record { in-method = λ m. applied-none _ m (g .args .rows .now) (g .args .h) (g .args .f) (n .result) (n .ensures .0) (omega arith) _ _ sent }
 
 pub apply-send-spec : {M : Type 1} → statement M
 apply-send-spec =
@@ -101,6 +101,7 @@ apply-send-spec =
     arity-requires
     returns
     mul-at
+    add-left
     one-row-requires
     sub-send-row
     part-send-row-start
@@ -112,7 +113,6 @@ apply-send-spec =
     part-copy-start
     part-copy-end
     copy-requires
-    add-t27
     same-length
     returns-2
     same-length-2

@@ -1,9 +1,9 @@
 -- `typing::body::type_body` meets its contract. The loop's invariant: the check of the whole body is that of the rest, from the stack that the rows hold.
 -- Assumes nothing.
 use borrow.Author.Needs.{needs}
-use Prim.Native.Nat.{ℕ, _*_, _-_, _≤_, _<_}
+use Prim.Native.Nat.{_*_, _-_, _≤_}
 use native.Mathlib.Omega.{arith}
-use mathlib.Core.Path.{_≡_, sym, ap, _∙_}
+use mathlib.Core.Path.{_≡_, sym, _∙_}
 use lib.ListN.{length, getD}
 use Rattle.rules.specs.Model.{arg, modelOf}
 use Rattle.rules.specs.Calls.{rowBytes}

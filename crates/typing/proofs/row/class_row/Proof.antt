@@ -2,9 +2,8 @@
 -- Assumes nothing.
 use borrow.Author.Needs.{needs}
 use native.Mathlib.Omega.{arith}
-use mathlib.Core.Path.{sym, ap, _∙_}
+use mathlib.Core.Path.{_∙_}
 use mathlib.Core.List.{[]}
-use lib.ListN.{length}
 use Rattle.typing.proofs.Rows.{row-empty, row-joined}
 use Rattle.typing.proofs.row.class_row.Statement.{statement}
 use Rattle.typing.proofs.row.class_row.Tie as tie

@@ -1,13 +1,11 @@
 -- `typing::send::licenses` meets its contract. The loop's invariant: the types at the places before i hold the signature's classes.
 -- Assumes nothing.
 use borrow.Author.Needs.{needs}
-use Prim.Native.Nat.{ℕ, _-_, _<_, _≤_}
+use Prim.Native.Nat.{_-_, _≤_}
 use native.Mathlib.Omega.{arith}
 use mathlib.Core.Path.{_≡_, sym, ap, _∙_}
 use lib.ListN.{length}
 use Rattle.rules.specs.Model.{modelOf}
-use Rattle.rules.specs.Calls.{rowBytes}
-use Rattle.layout.specs.Opened.{Opened}
 use Rattle.layout.proofs.Opened.{counts-of, wellformed-of}
 use Rattle.dispatch.proofs.Entry.{classes-fit}
 use Rattle.typing.proofs.Sends.{Passed, passed-none, passed-more, licensed-other, licensed-broken, licensed-all}

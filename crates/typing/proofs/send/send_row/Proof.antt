@@ -1,10 +1,9 @@
 -- `typing::send::send_row` meets its contract. The loop's invariant: the row holds the type that the signatures before s give the send.
 -- Assumes nothing.
 use borrow.Author.Needs.{needs}
-use Prim.Native.Nat.{ℕ, _-_, _≤_}
+use Prim.Native.Nat.{_-_, _≤_}
 use native.Mathlib.Omega.{arith}
-use mathlib.Core.Path.{_≡_, sym, ap, _∙_}
-use lib.ListN.{length}
+use mathlib.Core.Path.{_≡_, _∙_}
 use Rattle.rules.specs.Model.{modelOf}
 use Rattle.layout.proofs.Opened.{counts-of}
 use Rattle.typing.proofs.Sends.{Sending, sending-none, sending-hit, sending-miss, sending-all}

@@ -1,12 +1,11 @@
 -- `typing::send::send_type` meets its contract: the rows hold the classes' types, and the send's row is copied where there is a licence.
 -- Assumes nothing.
 use native.Mathlib.Omega.{arith}
-use mathlib.Core.Path.{_≡_, sym, ap, _∙_}
+use mathlib.Core.Path.{_≡_, sym, _∙_}
 use mathlib.Core.Bool.{true}
-use lib.ListN.{length, take}
+use lib.ListN.{take}
 use Rattle.rules.specs.Model.{modelOf, present}
 use Rattle.typing.specs.Rows.{Rows, classTypes}
-use Rattle.typing.specs.Sends.{Sent}
 use Rattle.typing.proofs.Rows.{row-copied}
 use Rattle.typing.proofs.Classes.{class-types-length}
 use Rattle.typing.proofs.Sends.{licensed-row, unlicensed-row}
