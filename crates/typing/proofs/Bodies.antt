@@ -13,13 +13,13 @@ use borrow.Author.Tests.{le-leb, lt-leb}
 use Rattle.rules.specs.Model.{Model, Instr, arg, new, send}
 use Rattle.rules.specs.Types.{Static, typed, breaks, Effect, leaves, breaksBy, arguments, argType, sendType, sendEffect, effect, afterEffect, inType, ending, typeFrom, typeBody}
 use Rattle.rules.specs.Calls.{rowBytes, overwrite, bit}
-use Rattle.typing.specs.Rows.{typeByte, Rows, stacked}
+use Rattle.typing.specs.Rows.{typeByte, Rows}
 use Rattle.typing.specs.Sends.{inhabited, Sent}
 use Rattle.typing.specs.Bodies.{typingOf, Stack, Agrees, Applied, Ended}
 use Rattle.typing.specs.declared.body.Typing.{Typing as BodyTyping}
 use Rattle.typing.specs.declared.body.Typing.the-variants.{Typed, Breaks}
 use Rattle.typing.specs.declared.body.Effect.the-variants.{Leaves, BreaksBy}
-use Rattle.typing.proofs.Rows.{rows-none, rows-push, rows-first, rows-rest}
+use Rattle.typing.proofs.Rows.{stacked, rows-none, rows-push, rows-first, rows-rest}
 use Rattle.typing.proofs.Sends.{bit-zero, bit-other}
 
 module _ (M : Model) (rows : List ℕ) where

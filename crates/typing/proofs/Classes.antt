@@ -13,9 +13,9 @@ use borrow.Author.Tests.{ltb-true}
 use Rattle.rules.specs.Model.{Model, present}
 use Rattle.rules.specs.Calls.{rowBytes}
 use Rattle.rules.proofs.Lists.{every-place}
-use Rattle.typing.specs.Rows.{Rows, stacked, classTypes}
+use Rattle.typing.specs.Rows.{Rows, classTypes}
 use Rattle.typing.proofs.Writing.{map-snoc}
-use Rattle.typing.proofs.Rows.{rows-none, rows-push}
+use Rattle.typing.proofs.Rows.{stacked, rows-none, rows-push}
 
 -- a class at a place below n is present where the first n are
 pub present-at : (M : Model) (n : ℕ) (args : List ℕ) → present M (take n args) ≡ true → n ≤ length args → (i : ℕ) → i < n → getD args i 0 < M .classes

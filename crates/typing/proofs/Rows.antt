@@ -21,7 +21,7 @@ use Rattle.layout.specs.Opened.{Opened}
 use Rattle.layout.specs.declared.bundle.Bundle.{Bundle}
 use Rattle.layout.proofs.Opened.{wellformed-of, counts-of}
 use Rattle.dispatch.specs.Matrix.{Filled, filled}
-use Rattle.typing.specs.Rows.{typeByte, noByte, sameByte, joined, joinedByte, Rows, stacked}
+use Rattle.typing.specs.Rows.{typeByte, noByte, sameByte, joined, joinedByte, Rows}
 use Rattle.typing.proofs.Writing.{overwrite-agree, overwrite-twice}
 
 pub filled-long : {M : Model} {s : List ℕ} → Filled M s → scratchBytes ≤ length s
@@ -92,6 +92,11 @@ row-copied M t from before old e =
     overwrite-agree rowBytes (sameByte from) (typeByte M t) old (λ k h. rw e (overwrite-at rowBytes (typeByte M t) before k h))
 
 -- Rows one after the other.
+
+-- the rows once row h holds a type, the others as they were
+unfoldable pub stacked : Model → Static → ℕ → List ℕ → List ℕ
+stacked M t h rows = take (rowBytes * h) rows ++ overwrite rowBytes (typeByte M t) (drop (rowBytes * h) rows)
+
 pub rows-none : (M : Model) (rows : List ℕ) → Rows M rows []
 rows-none M rows = record { long = omega arith; holds = λ i h. absurd (omega (arith, h)) }
 

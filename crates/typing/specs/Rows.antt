@@ -3,12 +3,12 @@
 use Prim.Native.Nat.{ℕ, _+_, _*_, _≤_, _<_}
 use mathlib.Core.Path.{_≡_}
 use mathlib.Core.Bool.{cond}
-use mathlib.Core.List.{List, [], _∷_, _++_, map}
-use lib.ListN.{length, getD, take, drop}
+use mathlib.Core.List.{List, [], _∷_, map}
+use lib.ListN.{length, getD}
 use Rattle.rules.specs.Model.{Model}
 use Rattle.rules.specs.Subclass.{subclass}
 use Rattle.rules.specs.Types.{Static, inType}
-use Rattle.rules.specs.Calls.{rowBytes, bit, overwrite}
+use Rattle.rules.specs.Calls.{rowBytes, bit}
 
 -- byte k of the row of a type
 unfoldable pub typeByte : Model → Static → ℕ → ℕ
@@ -33,10 +33,6 @@ joinedByte M c row k = joined M c k (getD row k 0)
 pub record Rows (M : Model) (rows : List ℕ) (types : List Static) : Type 0 where
   pub long : rowBytes * length types ≤ length rows
   pub holds : (i : ℕ) → i < length types → (k : ℕ) → k < rowBytes → getD rows (rowBytes * i + k) 0 ≡ typeByte M (getD types i []) k
-
--- the rows once row h holds a type, the others as they were
-unfoldable pub stacked : Model → Static → ℕ → List ℕ → List ℕ
-stacked M t h rows = take (rowBytes * h) rows ++ overwrite rowBytes (typeByte M t) (drop (rowBytes * h) rows)
 
 -- the types of argument classes, each that of its class
 unfoldable pub classTypes : List ℕ → List Static
