@@ -1,0 +1,6 @@
+pub mod Writing
+pub mod Rows
+pub mod Classes
+pub mod Sends
+pub mod Bodies
+pub mod Operands
