@@ -11,7 +11,8 @@ use borrow.Author.Tests.{lt-ltb, le-ltb, le-leb, lt-leb}
 use Rattle.rules.specs.Layout.{Answer, gives, refuses, opening, require, codeOf}
 use Rattle.rules.specs.Model.{Model, modelOf}
 use Rattle.rules.specs.Subclass.{subclass}
-use Rattle.rules.specs.Calls.{scratchBytes, onOpening, whenOpen, withScratch, bodyViewCall, ancestryIn, overwrite, matrixByte, scratchOn, scratchAfter}
+use Rattle.rules.specs.Types.{Static}
+use Rattle.rules.specs.Calls.{scratchBytes, onOpening, whenOpen, withScratch, bodyViewCall, ancestryIn, overwrite, matrixByte, scratchOn, scratchAfter, rowOn}
 use Rattle.layout.specs.declared.finding.LayoutFinding.{LayoutFinding}
 use Rattle.layout.specs.declared.finding.LayoutFinding.the-variants as finding
 use Rattle.layout.specs.declared.finding.Opening.the-variants as answer
@@ -25,6 +26,7 @@ use Rattle.curiumtoad.specs.declared.refusal.Refusal.{Refusal}
 use Rattle.curiumtoad.specs.declared.refusal.Refusal.the-variants as refusal
 use Rattle.curiumtoad.specs.declared.prepare.Prepared.the-variants as prepared
 use Rattle.curiumtoad.specs.Prepared.{Prepares, refusalSaid}
+use Rattle.curiumtoad.specs.Said.{blank}
 use Rattle.curiumtoad.specs.Refusal.{numberOf, valuesOf, recordOf}
 
 module _ {A : Type 0} (b : List ℕ) (call : Model → Answer A) where
@@ -140,3 +142,17 @@ module _ {b : List ℕ} {t : Bundle} (o : layout-opened.Opened b t) (a c : ℕ) 
   unfolding ancestryIn require
   ancestry-answered h k =
       rw (lt-ltb a (modelOf b .classes) (rw (sym (counts-of o .classes)) h), lt-ltb c (modelOf b .classes) (rw (sym (counts-of o .classes)) k))
+
+-- a refusal has no values of its own, and leaves the row as it was
+pub refusal-blank : (r : Refusal) → blank (refusalSaid {A = Static} r) ≡ refusalSaid r
+refusal-blank (refusal.Layout f) = refl
+refusal-blank refusal.Scratch = refl
+refusal-blank refusal.Row = refl
+refusal-blank refusal.Absent = refl
+
+pub refusal-row : (M : Model) (row : List ℕ) (r : Refusal) → rowOn (refusalSaid r) M row ≡ row
+unfolding rowOn
+refusal-row M row (refusal.Layout f) = refl
+refusal-row M row refusal.Scratch = refl
+refusal-row M row refusal.Row = refl
+refusal-row M row refusal.Absent = refl

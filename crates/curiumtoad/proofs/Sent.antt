@@ -3,22 +3,26 @@
 use Prim.Native.Nat.{ℕ, _≤_, _<_}
 use native.Mathlib.Omega.{arith}
 use mathlib.Core.Path.{_≡_, refl, sym, ap, subst, _∙_}
-use mathlib.Core.Bool.{Bool, true, false, _&&_}
+use mathlib.Core.Bool.{Bool, true, false, _&&_, false≢true}
 use mathlib.Core.List.{List, [], _∷_}
 use lib.Dec.{ltb, eqb}
 use lib.ListN.{length, getD, take}
-use borrow.Author.Tests.{lt-ltb, le-ltb, ltb-true}
+use borrow.Author.Tests.{lt-ltb, le-ltb, ltb-true, le-leb, lt-leb}
 use Rattle.rules.specs.Bounded.{every}
 use Rattle.rules.specs.Layout.{Answer, gives, refuses, require, tupleRule, places}
 use Rattle.rules.specs.Model.{modelOf, present}
 use Rattle.rules.specs.Lookup.{Found, lookup}
-use Rattle.rules.specs.Calls.{sendRule, used, foundAnswer, lookupIn}
+use Rattle.rules.specs.Calls.{rowBytes, sendRule, used, foundAnswer, lookupIn, licensed, sendTypeIn}
 use Rattle.rules.proofs.Lists.{and-left, and-right}
 use Rattle.layout.specs.Opened.{Opened}
 use Rattle.layout.specs.Tests.{placeRule}
 use Rattle.layout.specs.declared.bundle.Bundle.{Bundle}
 use Rattle.layout.proofs.Opened.{counts-of, wellformed-of}
 use Rattle.layout.proofs.Judged.{Judged, tuple-judged}
+use Rattle.rules.specs.Types.{Static, sendType}
+use Rattle.typing.specs.Rows.{classTypes}
+use Rattle.typing.specs.Sends.{inhabited}
+use Rattle.curiumtoad.specs.Said.{blank}
 use Rattle.curiumtoad.specs.Send.{placed}
 
 module _ {b : List ℕ} {t : Bundle} (o : Opened b t) (f : ℕ) (args : List ℕ) where
@@ -61,3 +65,23 @@ module _ {b : List ℕ} {t : Bundle} (o : Opened b t) (f : ℕ) (args : List ℕ
       → foundAnswer f args r ≡ lookupIn f args (modelOf b)
   unfolding lookupIn require used
   lookup-found e q = rw (e, ← q)
+
+  -- the answers of a send type call with a row of n bytes
+  pub type-short : (n : ℕ) → n < rowBytes → sendTypeIn n f args (modelOf b) ≡ refuses 20 []
+  unfolding sendTypeIn require
+  type-short n h = rw (lt-leb rowBytes n h)
+
+  pub type-absent : (n : ℕ) → rowBytes ≤ n → sendRule (modelOf b) f args ≡ false → sendTypeIn n f args (modelOf b) ≡ refuses 18 []
+  unfolding sendTypeIn require
+  type-absent n h e = rw (le-leb rowBytes n h, e)
+
+  pub type-answered : (n : ℕ) → rowBytes ≤ n → sendRule (modelOf b) f args ≡ true
+      → sendTypeIn n f args (modelOf b) ≡ licensed (sendType (modelOf b) f (classTypes (take (modelOf b .arity f) args)))
+  unfolding sendTypeIn require used classTypes
+  type-answered n h e = rw (le-leb rowBytes n h, e)
+
+-- whether a type has a class says whether its send is licensed
+pub licensed-blank : (t : Static) {r : Bool} → r ≡ inhabited t → (r ≡ true → gives tt ≡ blank (licensed t)) × (r ≡ false → refuses 16 [] ≡ blank (licensed t))
+unfolding inhabited licensed
+licensed-blank [] q = (λ e. absurd (false≢true (sym q ∙ e)), λ e. refl)
+licensed-blank (c ∷ cs) q = (λ e. refl, λ e. absurd (false≢true (sym e ∙ q)))

@@ -6,4 +6,5 @@ pub mod opening;
 pub mod prepare;
 pub mod refusal;
 pub mod send;
+pub mod send_type;
 pub mod view;

@@ -13,6 +13,24 @@ pub record Counted (b : List ℕ) (k width : ℕ) (s : Section) : Type 0 where
   pub place : s .at ≡ offset b k
   pub records : s .count ≡ extent b k / width
 
+-- the bundle of six counted sections
+abbrev pub bundleOf : Section → Section → Section → Section → Section → Section → Bundle
+bundleOf classes parents functions signatures methods code =
+    record {
+      classes = classes .count;
+      functions = functions .count;
+      signatures = signatures .count;
+      methods = methods .count;
+      «class_at» = classes .at;
+      «parent_at» = parents .at;
+      «function_at» = functions .at;
+      «signature_at» = signatures .at;
+      «method_at» = methods .at;
+      «code_at» = code .at;
+      «parent_len» = parents .count;
+      «code_len» = code .count;
+    }
+
 -- the tables are those of the bundle's directory
 pub record Tables (b : List ℕ) (t : Bundle) : Type 0 where
   pub classes : t .classes ≡ classCount b

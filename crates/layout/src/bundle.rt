@@ -4,8 +4,8 @@ use crate::directory::section_len;
 ghost use mathlib.Core.Path.{_≡_};
 ghost use Prim.Native.Nat.{_<_, _≤_, _/_};
 ghost use lib.ListN.{length};
-ghost use Rattle.rules.specs.Layout.{offset, extent, limitRule};
-ghost use Rattle.layout.specs.Tables.{Tables, Counted};
+ghost use Rattle.rules.specs.Layout.{limitRule};
+ghost use Rattle.layout.specs.Tables.{Tables, Counted, bundleOf};
 
 // A section of records: where it begins, and how many there are.
 pub struct Section {
@@ -25,6 +25,7 @@ fn counted(bytes: &[u8], k: usize, width: usize) -> Section
     Section { at, count }
 }
 
+// The counts of records, and where each section begins; of parents and code, how many bytes there are.
 pub struct Bundle {
     pub classes: usize,
     pub functions: usize,
@@ -52,17 +53,17 @@ impl Bundle {
 
     pub const PLACES: usize = 3;
 
-    // The bundle whose directory counts these sections.
-    pub fn of_directory(bytes: &[u8]) -> Bundle
-        requires { ⌜ 24 ≤ length (now bytes) ⌝ }
-        ensures { λ r. ⌜ Tables (now (bytes .entry)) r ⌝ }
+    // The bundle whose six sections are counted.
+    pub fn new(
+        classes: Section,
+        parents: Section,
+        functions: Section,
+        signatures: Section,
+        methods: Section,
+        code: Section,
+    ) -> Bundle
+        ensures { λ r. ⌜ r ≡ bundleOf classes parents functions signatures methods code ⌝ }
     {
-        let classes = counted(bytes, 0, 6);
-        let parents = counted(bytes, 1, 1);
-        let functions = counted(bytes, 2, 1);
-        let signatures = counted(bytes, 3, 5);
-        let methods = counted(bytes, 4, 12);
-        let code = counted(bytes, 5, 1);
         Bundle {
             classes: classes.count,
             functions: functions.count,
@@ -77,6 +78,20 @@ impl Bundle {
             parent_len: parents.count,
             code_len: code.count,
         }
+    }
+
+    // The bundle that the directory describes.
+    pub fn of_directory(bytes: &[u8]) -> Bundle
+        requires { ⌜ 24 ≤ length (now bytes) ⌝ }
+        ensures { λ r. ⌜ Tables (now (bytes .entry)) r ⌝ }
+    {
+        let classes = counted(bytes, 0, 6);
+        let parents = counted(bytes, 1, 1);
+        let functions = counted(bytes, 2, 1);
+        let signatures = counted(bytes, 3, 5);
+        let methods = counted(bytes, 4, 12);
+        let code = counted(bytes, 5, 1);
+        Bundle::new(classes, parents, functions, signatures, methods, code)
     }
 
     // Whether no count passes its limit, and there is a class.

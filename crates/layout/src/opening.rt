@@ -8,7 +8,6 @@ use crate::lowest::Lowest;
 use crate::lowest::Rule;
 use crate::lowest::lowest_broken;
 ghost use mathlib.Core.Path.{_≡_};
-ghost use Rattle.rules.specs.Layout.{opening};
 ghost use Rattle.layout.specs.Tables.{Placed};
 ghost use Rattle.layout.specs.Opening.{said, recordsOpening, TablesOf, Opens};
 

@@ -11,31 +11,41 @@ enum-told : tie.Need-enum-told
 enum-told c = search needs
 
 class-breaks-requires : tie.Need-class-breaks-requires
-class-breaks-requires c κs = let s = c .before .before .before in (s .pre .0, (rw (c .enum-told .given .1) at (s .pre .1 .1 .0), rw (c .enum-told .given .1) at (s .pre .1 .1 .1)))
+class-breaks-requires c κs =
+    let s = c .before .before .before in
+    (s .pre .0, (rw (c .enum-told .given .1) at (s .pre .1 .1 .0), rw (c .enum-told .given .1) at (s .pre .1 .1 .1)))
 
 enum-told-2 : tie.Need-enum-told-2
 enum-told-2 c = search needs
 
 function-breaks-requires : tie.Need-function-breaks-requires
-function-breaks-requires c κs = let s = c .before .before .before in (s .pre .0, rw (c .enum-told2 .given .1) at (s .pre .1 .1 .0))
+function-breaks-requires c κs =
+    let s = c .before .before .before in
+    (s .pre .0, rw (c .enum-told2 .given .1) at (s .pre .1 .1 .0))
 
 enum-told-3 : tie.Need-enum-told-3
 enum-told-3 c = search needs
 
 signature-breaks-requires : tie.Need-signature-breaks-requires
-signature-breaks-requires c κs = let s = c .before .before .before in (s .pre .0, rw (c .enum-told3 .given .1) at (s .pre .1 .1 .0))
+signature-breaks-requires c κs =
+    let s = c .before .before .before in
+    (s .pre .0, rw (c .enum-told3 .given .1) at (s .pre .1 .1 .0))
 
 enum-told-4 : tie.Need-enum-told-4
 enum-told-4 c = search needs
 
 method-breaks-requires : tie.Need-method-breaks-requires
-method-breaks-requires c κs = let s = c .before .before .before in (s .pre .0, (rw (c .enum-told4 .given .1) at (s .pre .1 .1 .0), rw (c .enum-told4 .given .1) at (s .pre .1 .1 .1)))
+method-breaks-requires c κs =
+    let s = c .before .before .before in
+    (s .pre .0, (rw (c .enum-told4 .given .1) at (s .pre .1 .1 .0), rw (c .enum-told4 .given .1) at (s .pre .1 .1 .1)))
 
 enum-told-5 : tie.Need-enum-told-5
 enum-told-5 c = search needs
 
 has-twin-requires : tie.Need-has-twin-requires
-has-twin-requires c κs = let s = c .before .before .before in (s .pre .0, rw (c .enum-told5 .given .1) at (s .pre .1 .1 .0))
+has-twin-requires c κs =
+    let s = c .before .before .before in
+    (s .pre .0, rw (c .enum-told5 .given .1) at (s .pre .1 .1 .0))
 
 enum-told-6 : tie.Need-enum-told-6
 enum-told-6 c = search needs

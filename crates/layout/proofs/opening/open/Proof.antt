@@ -1,8 +1,10 @@
 -- `layout::opening::open` meets its contract: the rules are tried in their order, and the first that is broken gives the answer.
 -- Assumes nothing.
 use borrow.Author.Needs.{needs}
+use native.Mathlib.Omega.{arith}
 use mathlib.Core.Path.{_≡_, sym, _∙_}
 use mathlib.Core.Bool.{true}
+use lib.ListN.{length}
 use borrow.Author.Tests.{le-leb, not-true, not-false}
 use Rattle.rules.specs.Layout.{sizeRule, chainRule, wholeRule, limitRule, require, opening}
 use Rattle.rules.proofs.Wellformed.{short-refused, long-refused}
@@ -13,7 +15,9 @@ use Rattle.layout.proofs.opening.open.Tie as tie
 
 size : (c : tie.Else2) → sizeRule (c .before .before .before .args .bytes .now) ≡ true
 unfolding sizeRule
-size c = rw (le-leb _ _ (c .before .if1 .left), le-leb _ _ (c .if2 .left))
+size c =
+    let b = c .before .before .before .args .bytes .now in
+    rw (le-leb 24 (length b) (omega arith), le-leb (length b) 65535 (omega arith))
 
 chain : (c : tie.Else3) → chainRule (c .before .before .before .before .before .args .bytes .now) ≡ true
 chain c = sym (c .before .chained .ensures) ∙ not-false (c .before .chained .result) (c .if3 .left)

@@ -25,16 +25,21 @@ counted-requires-5 c κs = search needs
 counted-requires-6 : tie.Need-counted-requires-6
 counted-requires-6 c κs = search needs
 
+new-requires : tie.Need-new-requires
+new-requires c κs = search needs
+
 returns : tie.Need-returns
 unfolding classCount functionCount signatureCount methodCount
 returns c =
-    let code = c .counted6 .ensures in
-    let methods = c .before .counted5 .ensures in
-    let signatures = c .before .before .counted4 .ensures in
-    let functions = c .before .before .before .counted3 .ensures in
-    let parents = c .before .before .before .before .counted2 .ensures in
-    let classes = c .before .before .before .before .before .counted .ensures in
-    record {
+    let d = c .before in
+    let code = d .counted6 .ensures in
+    let methods = d .before .counted5 .ensures in
+    let signatures = d .before .before .counted4 .ensures in
+    let functions = d .before .before .before .counted3 .ensures in
+    let parents = d .before .before .before .before .counted2 .ensures in
+    let classes = d .before .before .before .before .before .counted .ensures in
+    rw (c .new .ensures)
+    (record {
       classes = classes .records;
       functions = functions .records ∙ div-one _;
       signatures = signatures .records;
@@ -47,7 +52,7 @@ returns c =
       code-at = code .place;
       parent-len = parents .records ∙ div-one _;
       code-len = code .records ∙ div-one _;
-    }
+    })
 
 pub of-directory-spec : {M : Type 1} → statement M
 of-directory-spec =
@@ -59,4 +64,5 @@ of-directory-spec =
     counted-requires-4
     counted-requires-5
     counted-requires-6
+    new-requires
     returns)

@@ -14,7 +14,7 @@ returns-2 : tie.Need-returns-2
 unfolding limitRule
 returns-2 c =
     let s = c .before .before .before .before in
-    rw (← s .pre .classes, lt-ltb 0 (s .args .self .classes) (omega arith), lt-leb _ _ (c .if2 .taken))
+    rw (← s .pre .classes, lt-ltb 0 (s .args .self .classes) (omega arith), lt-leb (s .args .self .classes) 128 (omega arith))
 
 returns-3 : tie.Need-returns-3
 unfolding limitRule
@@ -25,7 +25,7 @@ returns-3 c =
       lt-ltb 0 (s .args .self .classes) (omega arith),
       le-leb (s .args .self .classes) 128 (omega arith),
       ← s .pre .functions,
-      lt-leb _ _ (c .if3 .taken),
+      lt-leb (s .args .self .functions) 64 (omega arith),
     )
 
 returns-4 : tie.Need-returns-4
@@ -39,7 +39,7 @@ returns-4 c =
       ← s .pre .functions,
       le-leb (s .args .self .functions) 64 (omega arith),
       ← s .pre .signatures,
-      lt-leb _ _ (c .if4 .taken),
+      lt-leb (s .args .self .signatures) 256 (omega arith),
     )
 
 returns-5 : tie.Need-returns-5
