@@ -7,13 +7,15 @@ use mathlib.Core.Bool.{Bool, true, false, _&&_, false≢true}
 use mathlib.Core.List.{List, [], _∷_}
 use lib.Dec.{ltb, eqb}
 use lib.ListN.{length, getD, take}
+use lib.Seq.{length-take-le, getD-take}
 use borrow.Author.Tests.{lt-ltb, le-ltb, ltb-true, le-leb, lt-leb}
 use Rattle.rules.specs.Bounded.{every}
 use Rattle.rules.specs.Layout.{Answer, gives, refuses, require, tupleRule, places}
 use Rattle.rules.specs.Model.{modelOf, present}
 use Rattle.rules.specs.Lookup.{Found, lookup}
 use Rattle.rules.specs.Calls.{rowBytes, sendRule, used, foundAnswer, lookupIn, licensed, sendTypeIn}
-use Rattle.rules.proofs.Lists.{and-left, and-right}
+use Rattle.rules.specs.Coverage.{concreteClass}
+use Rattle.rules.proofs.Lists.{and-left, and-right, every-place, every-places, every-broken}
 use Rattle.layout.specs.Opened.{Opened}
 use Rattle.layout.specs.Tests.{placeRule}
 use Rattle.layout.specs.declared.bundle.Bundle.{Bundle}
@@ -85,3 +87,31 @@ pub licensed-blank : (t : Static) {r : Bool} → r ≡ inhabited t → (r ≡ tr
 unfolding inhabited licensed
 licensed-blank [] q = (λ e. absurd (false≢true (sym q ∙ e)), λ e. refl)
 licensed-blank (c ∷ cs) q = (λ e. refl, λ e. absurd (false≢true (sym e ∙ q)))
+
+-- a class of the bundle among arguments that are present
+pub present-class : {b : List ℕ} {t : Bundle} → Opened b t → (n : ℕ) (args : List ℕ) → present (modelOf b) (take n args) ≡ true → n ≤ length args
+    → (i : ℕ) → i < n → getD args i 0 < t .classes
+unfolding present
+present-class {b} o n args e l i h =
+    let k = length-take-le n args l in
+    let p = ltb-true (getD (take n args) i 0) (modelOf b .classes) (every-place (λ c. ltb c (modelOf b .classes)) (take n args) 0 e i (omega (arith, k))) in
+    let q = getD-take n args i 0 h in
+    omega (arith, p, q, counts-of o .classes)
+
+-- the concrete ones among them, by place
+pub concrete-judged : {b : List ℕ} {t : Bundle} → Opened b t → (n : ℕ) (args : List ℕ) → present (modelOf b) (take n args) ≡ true → n ≤ length args
+    → Judged (every (concreteClass (modelOf b)) (take n args)) (λ i. modelOf b .concrete (getD args i 0)) n
+unfolding concreteClass
+concrete-judged {b} o n args e l =
+    record {
+      holds = λ h. every-places (concreteClass (modelOf b)) (take n args) 0 (λ i k. at i (omega (arith, k, len)) ∙ h i (omega (arith, k, len)));
+      breaks = λ i k q. every-broken (concreteClass (modelOf b)) (take n args) 0 i (omega (arith, len)) (at i k ∙ q);
+    }
+  where
+    len : length (take n args) ≡ n
+    len = length-take-le n args l
+
+    at : (i : ℕ) → i < n → concreteClass (modelOf b) (getD (take n args) i 0) ≡ modelOf b .concrete (getD args i 0)
+    at i k =
+        let p = present-class o n args e l i k in
+        rw (getD-take n args i 0 k, lt-ltb (getD args i 0) (modelOf b .classes) (omega (arith, p, counts-of o .classes)))

@@ -1,11 +1,15 @@
 // A send as a caller passes it: a function, and a number for each of the three places.
 use layout::bundle::Bundle;
 use layout::field::arity;
+use layout::field::is_concrete;
 ghost use mathlib.Core.Path.{_≡_};
-ghost use Prim.Native.Nat.{_<_, _≤_};
-ghost use lib.ListN.{length, getD};
+ghost use Prim.Native.Nat.{_≤_};
+ghost use mathlib.Core.Bool.{true};
+ghost use lib.ListN.{length, take};
 ghost use Rattle.rules.specs.Layout.{places};
-ghost use Rattle.rules.specs.Model.{modelOf};
+ghost use Rattle.rules.specs.Bounded.{every};
+ghost use Rattle.rules.specs.Model.{modelOf, present};
+ghost use Rattle.rules.specs.Coverage.{concreteClass};
 ghost use Rattle.rules.specs.Calls.{sendRule};
 ghost use Rattle.layout.specs.Opened.{Opened};
 ghost use Rattle.curiumtoad.specs.Send.{placed};
@@ -42,6 +46,23 @@ pub fn is_send(bundle: &[u8], b: Bundle, function: usize, args: &[usize]) -> boo
     let mut i = 0;
     while i < Bundle::PLACES {
         if !fits(classes, n, i, args[i]) {
+            return false;
+        }
+        i += 1;
+    }
+    true
+}
+
+// Whether the first n arguments, which are classes of the bundle, are concrete.
+pub fn all_concrete(bundle: &[u8], b: Bundle, n: usize, args: &[usize]) -> bool
+    requires { ⌜ Opened (now bundle) b ⌝ }
+    requires { ⌜ n ≤ length (now args) ⌝ }
+    requires { ⌜ present (modelOf (now bundle)) (take n (now args)) ≡ true ⌝ }
+    ensures { λ r. ⌜ r ≡ every (concreteClass (modelOf (now (bundle .entry)))) (take n (now (args .entry))) ⌝ }
+{
+    let mut i = 0;
+    while i < n {
+        if !is_concrete(bundle, b, args[i]) {
             return false;
         }
         i += 1;

@@ -4,3 +4,4 @@ pub mod Classes
 pub mod Sends
 pub mod Bodies
 pub mod Operands
+pub mod Broken
