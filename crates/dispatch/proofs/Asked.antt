@@ -28,7 +28,7 @@ filled-long : {M : Model} {s : List ℕ} → Filled M s → scratchBytes ≤ len
 filled-long (filled f) = f .long
 
 -- each class of a list is under the one at its place in another
-under-judged : (M : Model) (xs ys : List ℕ) (n : ℕ) → length xs ≡ n → length ys ≡ n
+pub under-judged : (M : Model) (xs ys : List ℕ) (n : ℕ) → length xs ≡ n → length ys ≡ n
     → Judged (under M xs ys) (λ i. subclass M (getD xs i 0) (getD ys i 0)) n
 unfolding under
 under-judged M xs ys n p q =

@@ -5,3 +5,4 @@ pub mod Sends
 pub mod Bodies
 pub mod Operands
 pub mod Broken
+pub mod Judging
