@@ -1,30 +1,33 @@
 -- The rule on a call's send, by its places.
 -- Assumes nothing.
-use Prim.Native.Nat.{ℕ, _≤_, _<_}
+use Prim.Native.Nat.{ℕ, zero, suc, _≤_, _<_}
 use native.Mathlib.Omega.{arith}
 use mathlib.Core.Path.{_≡_, refl, sym, ap, subst, _∙_}
 use mathlib.Core.Bool.{Bool, true, false, _&&_, false≢true}
-use mathlib.Core.List.{List, [], _∷_}
+use mathlib.Core.List.{List, [], _∷_, _++_}
 use lib.Dec.{ltb, eqb}
-use lib.ListN.{length, getD, take}
-use lib.Seq.{length-take-le, getD-take}
+use lib.ListN.{length, getD, take, replicate, length-append, length-replicate}
+use lib.Seq.{length-take-le, getD-take, ext-getD}
 use borrow.Author.Tests.{lt-ltb, le-ltb, ltb-true, le-leb, lt-leb}
 use Rattle.rules.specs.Bounded.{every}
-use Rattle.rules.specs.Layout.{Answer, gives, refuses, require, tupleRule, places}
-use Rattle.rules.specs.Model.{modelOf, present}
+use Rattle.rules.specs.Layout.{Answer, gives, refuses, require, tupleRule, places, padded}
+use Rattle.rules.specs.Model.{Model, modelOf, present}
 use Rattle.rules.specs.Lookup.{Found, lookup}
-use Rattle.rules.specs.Calls.{rowBytes, sendRule, used, foundAnswer, lookupIn, licensed, sendTypeIn}
-use Rattle.rules.specs.Coverage.{concreteClass}
-use Rattle.rules.proofs.Lists.{and-left, and-right, every-place, every-places, every-broken}
+use Rattle.rules.specs.Calls.{rowBytes, sendRule, used, foundAnswer, lookupIn, licensed, sendTypeIn, witnessRule, witnessIn, witnessAnswer}
+use Rattle.rules.specs.Coverage.{concreteClass, covers, Judgement, holds, fails, judge, coverageRefusal}
+use Rattle.rules.proofs.Places.{used-places-read}
+use Rattle.rules.proofs.Lists.{and-left, and-right, and-both, every-places, every-broken}
 use Rattle.layout.specs.Opened.{Opened}
 use Rattle.layout.specs.Tests.{placeRule}
 use Rattle.layout.specs.declared.bundle.Bundle.{Bundle}
 use Rattle.layout.proofs.Opened.{counts-of, wellformed-of}
+use Rattle.rules.specs.Subclass.{subclass}
+use Rattle.dispatch.proofs.Asked.{argument-below, under-judged}
 use Rattle.layout.proofs.Judged.{Judged, tuple-judged}
 use Rattle.rules.specs.Types.{Static, sendType}
 use Rattle.typing.specs.Rows.{classTypes}
 use Rattle.typing.specs.Sends.{inhabited}
-use Rattle.curiumtoad.specs.Said.{blank}
+use Rattle.curiumtoad.specs.Said.{blank, coverageValues}
 use Rattle.curiumtoad.specs.Send.{placed}
 
 module _ {b : List ℕ} {t : Bundle} (o : Opened b t) (f : ℕ) (args : List ℕ) where
@@ -88,17 +91,7 @@ unfolding inhabited licensed
 licensed-blank [] q = (λ e. absurd (false≢true (sym q ∙ e)), λ e. refl)
 licensed-blank (c ∷ cs) q = (λ e. refl, λ e. absurd (false≢true (sym e ∙ q)))
 
--- a class of the bundle among arguments that are present
-pub present-class : {b : List ℕ} {t : Bundle} → Opened b t → (n : ℕ) (args : List ℕ) → present (modelOf b) (take n args) ≡ true → n ≤ length args
-    → (i : ℕ) → i < n → getD args i 0 < t .classes
-unfolding present
-present-class {b} o n args e l i h =
-    let k = length-take-le n args l in
-    let p = ltb-true (getD (take n args) i 0) (modelOf b .classes) (every-place (λ c. ltb c (modelOf b .classes)) (take n args) 0 e i (omega (arith, k))) in
-    let q = getD-take n args i 0 h in
-    omega (arith, p, q, counts-of o .classes)
-
--- the concrete ones among them, by place
+-- the concrete ones among arguments that are present, by place
 pub concrete-judged : {b : List ℕ} {t : Bundle} → Opened b t → (n : ℕ) (args : List ℕ) → present (modelOf b) (take n args) ≡ true → n ≤ length args
     → Judged (every (concreteClass (modelOf b)) (take n args)) (λ i. modelOf b .concrete (getD args i 0)) n
 unfolding concreteClass
@@ -113,5 +106,103 @@ concrete-judged {b} o n args e l =
 
     at : (i : ℕ) → i < n → concreteClass (modelOf b) (getD (take n args) i 0) ≡ modelOf b .concrete (getD args i 0)
     at i k =
-        let p = present-class o n args e l i k in
+        let p = argument-below o n args l e i k in
         rw (getD-take n args i 0 k, lt-ltb (getD args i 0) (modelOf b .classes) (omega (arith, p, counts-of o .classes)))
+
+-- A signature's places.
+module _ {b : List ℕ} {t : Bundle} (o : Opened b t) (s : ℕ) (n : ℕ) (args : List ℕ) (h : s < t .signatures) (q : n ≡ modelOf b .arity (modelOf b .sigFunction s)) where
+  signature-present : s < modelOf b .signatures
+  signature-present = omega (arith, h, counts-of o .signatures)
+
+  pub signature-limit : n ≤ places
+  signature-limit =
+      let w = wellformed-of o in
+      omega (arith, q, w .arity-limit (modelOf b .sigFunction s) (w .sig-function s signature-present))
+
+  -- whether it covers the first n arguments, by place
+  pub covers-judged : n ≤ length args → Judged (covers (modelOf b) s (take n args)) (λ i. subclass (modelOf b) (getD args i 0) (getD (modelOf b .sigArgs s) i 0)) n
+  unfolding covers
+  covers-judged l =
+      let j = under-judged (modelOf b) (take n args) (modelOf b .sigArgs s) n (length-take-le n args l) (wellformed-of o .sig-places s signature-present ∙ sym q) in
+      record {
+        holds = λ all. j .holds (λ i k. ap (λ (x : ℕ). subclass (modelOf b) x (getD (modelOf b .sigArgs s) i 0)) (getD-take n args i 0 k) ∙ all i k);
+        breaks = λ i k e. j .breaks i k (ap (λ (x : ℕ). subclass (modelOf b) x (getD (modelOf b .sigArgs s) i 0)) (getD-take n args i 0 k) ∙ e);
+      }
+
+-- a judgement's refusal by the rules and by its values
+coverage-same : (M : Model) (s : ℕ) (args : List ℕ) {values : List ℕ} (j : Judgement) → M .sigFunction s ∷ padded args ≡ values
+    → coverageValues s values j ≡ coverageRefusal M s args j
+unfolding coverageRefusal
+coverage-same M s args (holds m) v = refl
+coverage-same M s args (fails number ms) v = rw (← v)
+
+-- A witness: the signature is there, the send keeps its rule, the classes are concrete, and the signature covers them.
+module _ {b : List ℕ} {t : Bundle} (o : Opened b t) (s : ℕ) (args : List ℕ) where
+  pub witness-absent : t .signatures ≤ s → witnessRule (modelOf b) s args ≡ false
+  unfolding witnessRule
+  witness-absent h = rw (le-ltb s (modelOf b .signatures) (rw (sym (counts-of o .signatures)) h))
+
+  -- with the signature there, by its other three parts
+  pub witness-unsent : {f : ℕ} → s < t .signatures → f ≡ modelOf b .sigFunction s → sendRule (modelOf b) f args ≡ false → witnessRule (modelOf b) s args ≡ false
+  unfolding witnessRule
+  witness-unsent h e p = rw (lt-ltb s (modelOf b .signatures) (rw (sym (counts-of o .signatures)) h), ← e, p)
+
+  pub witness-sent : {f n : ℕ} → s < t .signatures → f ≡ modelOf b .sigFunction s → sendRule (modelOf b) f args ≡ true → n ≡ modelOf b .arity f
+      → (every (concreteClass (modelOf b)) (take n args) && covers (modelOf b) s (take n args)) ≡ witnessRule (modelOf b) s args
+  unfolding witnessRule used
+  witness-sent h e p q = rw (lt-ltb s (modelOf b .signatures) (rw (sym (counts-of o .signatures)) h), ← e, p, ← q)
+
+  -- what the rule says of a witness
+  pub witness-signature : witnessRule (modelOf b) s args ≡ true → s < t .signatures
+  unfolding witnessRule
+  witness-signature e =
+      let h : s < modelOf b .signatures = ltb-true s (modelOf b .signatures) (search (and-left, and-right)) in
+      omega (arith, h, counts-of o .signatures)
+
+  pub witness-send : witnessRule (modelOf b) s args ≡ true → sendRule (modelOf b) (modelOf b .sigFunction s) args ≡ true
+  unfolding witnessRule
+  witness-send e = search (and-left, and-right)
+
+  -- the answers of a witness check
+  pub witness-refused : witnessRule (modelOf b) s args ≡ false → refuses 18 [] ≡ witnessIn s args (modelOf b)
+  unfolding witnessIn require
+  witness-refused e = rw e
+
+  pub witness-judged : {values : List ℕ} {j : Judgement} → witnessRule (modelOf b) s args ≡ true
+      → modelOf b .sigFunction s ∷ padded (take (modelOf b .arity (modelOf b .sigFunction s)) args) ≡ values
+      → j ≡ judge (modelOf b) s (take (modelOf b .arity (modelOf b .sigFunction s)) args)
+      → coverageValues s values j ≡ witnessIn s args (modelOf b)
+  unfolding witnessIn require witnessAnswer used
+  witness-judged {values} {j} e v q = rw (e, ← q) (coverage-same (modelOf b) s (take (modelOf b .arity (modelOf b .sigFunction s)) args) j v)
+
+zeros-after : (xs : List ℕ) (k i : ℕ) → getD (xs ++ replicate k 0) i 0 ≡ getD xs i 0
+zeros-after [] zero i = refl
+zeros-after [] (suc k) zero = refl
+zeros-after [] (suc k) (suc i) = zeros-after [] k i
+zeros-after (x ∷ xs) k zero = refl
+zeros-after (x ∷ xs) k (suc i) = zeros-after xs k i
+
+-- the arguments that a send passes are its tuple padded: unused places are 0
+pub used-padded : (classes n : ℕ) (args : List ℕ) → length args ≡ places → tupleRule classes n args ≡ true → padded (take n args) ≡ args
+unfolding padded
+used-padded classes n args l e =
+    ext-getD 0 (take places (take n args ++ replicate places 0)) args
+    (length-take-le places (take n args ++ replicate places 0) long ∙ sym l)
+    (λ i h. same i (omega (arith, h, length-take-le places (take n args ++ replicate places 0) long)))
+  where
+    long : places ≤ length (take n args ++ replicate places 0)
+    long = omega (arith, length-append (take n args) (replicate places 0), length-replicate {A = ℕ} places 0)
+
+    same : (i : ℕ) → i < places → getD (take places (take n args ++ replicate places 0)) i 0 ≡ getD args i 0
+    same i h = getD-take places (take n args ++ replicate places 0) i 0 h ∙ zeros-after (take n args) places i ∙ used-places-read classes n args e i
+
+-- the values of a witness's send: its function and the tuple that was passed
+pub witness-values : {b : List ℕ} {t : Bundle} → Opened b t → (s : ℕ) (args : List ℕ) {f : ℕ} → witnessRule (modelOf b) s args ≡ true → length args ≡ places
+    → f ≡ modelOf b .sigFunction s
+    → modelOf b .sigFunction s ∷ padded (take (modelOf b .arity (modelOf b .sigFunction s)) args) ≡ f ∷ args
+unfolding sendRule
+witness-values {b} o s args {f} e l q =
+    let sent = witness-send o s args e in
+    let tuple = used-padded (modelOf b .classes) (modelOf b .arity (modelOf b .sigFunction s)) args l
+    (and-right (ltb (modelOf b .sigFunction s) (modelOf b .functions)) (tupleRule (modelOf b .classes) (modelOf b .arity (modelOf b .sigFunction s)) args) sent) in
+    rw (tuple, q)

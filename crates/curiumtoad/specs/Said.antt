@@ -4,12 +4,19 @@ use Prim.Native.Nat.{ℕ}
 use mathlib.Core.Bool.{Bool, true, false}
 use mathlib.Core.List.{List, [], _∷_, _++_}
 use Rattle.rules.specs.Layout.{Answer, gives, refuses}
+use Rattle.rules.specs.Coverage.{Judgement, holds, fails}
 use Rattle.curiumtoad.specs.declared.ancestry.AncestryAnswer as ancestry-type
 use Rattle.curiumtoad.specs.declared.ancestry.AncestryAnswer.the-variants as ancestry
 use Rattle.curiumtoad.specs.declared.lookup.LookupAnswer as lookup-type
 use Rattle.curiumtoad.specs.declared.lookup.LookupAnswer.the-variants as lookup
 use Rattle.curiumtoad.specs.declared.send_type.SendTypeAnswer as send-type-answer
 use Rattle.curiumtoad.specs.declared.send_type.SendTypeAnswer.the-variants as send-type
+use Rattle.curiumtoad.specs.declared.witness.CoverageFinding as finding-type
+use Rattle.curiumtoad.specs.declared.witness.CoverageFinding.the-variants as finding
+use Rattle.curiumtoad.specs.declared.witness.Judged as judged-type
+use Rattle.curiumtoad.specs.declared.witness.Judged.the-variants as judged
+use Rattle.curiumtoad.specs.declared.witness.WitnessAnswer as witness-type
+use Rattle.curiumtoad.specs.declared.witness.WitnessAnswer.the-variants as witness
 use Rattle.curiumtoad.specs.Prepared.{refusalSaid}
 use Rattle.curiumtoad.specs.Send.{sendValues}
 
@@ -33,3 +40,24 @@ abbrev pub sendTypeSaid : send-type-answer.SendTypeAnswer → Answer (Unit {0})
 sendTypeSaid send-type.Typed = gives tt
 sendTypeSaid send-type.Unlicensed = refuses 16 []
 sendTypeSaid (send-type.Refused r) = refusalSaid r
+
+-- "signature, function, tuple, method(s)"
+abbrev pub coverageSaid : finding-type.CoverageFinding → Answer (Unit {0})
+coverageSaid (finding.Missing s x) = refuses 10 (s ∷ sendValues x)
+coverageSaid (finding.Ambiguous s x m n) = refuses 11 (s ∷ sendValues x ++ m ∷ n ∷ [])
+coverageSaid (finding.Declared s x m) = refuses 12 (s ∷ sendValues x ++ m ∷ [])
+coverageSaid (finding.Result s x m) = refuses 13 (s ∷ sendValues x ++ m ∷ [])
+
+-- a judgement under a signature, with the values of its send
+abbrev pub coverageValues : ℕ → List ℕ → Judgement → Answer (Unit {0})
+coverageValues s values (holds m) = gives tt
+coverageValues s values (fails number ms) = refuses number (s ∷ values ++ ms)
+
+abbrev pub judgedSaid : judged-type.Judged → Answer (Unit {0})
+judgedSaid judged.Holds = gives tt
+judgedSaid (judged.Fails found) = coverageSaid found
+
+abbrev pub witnessSaid : witness-type.WitnessAnswer → Answer (Unit {0})
+witnessSaid witness.Holds = gives tt
+witnessSaid (witness.Fails found) = coverageSaid found
+witnessSaid (witness.Refused r) = refusalSaid r

@@ -8,3 +8,4 @@ pub mod refusal;
 pub mod send;
 pub mod send_type;
 pub mod view;
+pub mod witness;

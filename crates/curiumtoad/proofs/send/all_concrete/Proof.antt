@@ -9,7 +9,8 @@ use mathlib.Core.Path.{_≡_, sym, _∙_}
 use mathlib.Core.Bool.{true}
 use lib.ListN.{getD}
 use Rattle.rules.specs.Model.{modelOf}
-use Rattle.curiumtoad.proofs.Sent.{present-class, concrete-judged}
+use Rattle.dispatch.proofs.Asked.{argument-below}
+use Rattle.curiumtoad.proofs.Sent.{concrete-judged}
 use Rattle.curiumtoad.proofs.send.all_concrete.Statement.{statement}
 use Rattle.curiumtoad.proofs.send.all_concrete.Tie as tie
 
@@ -32,7 +33,7 @@ is-concrete-requires : tie.Need-is-concrete-requires Inv-loop μ-loop
 is-concrete-requires c κs =
     let s = c .before .before in
     let g = s .before .before .before in
-    (g .pre .0, present-class (g .pre .0) (g .args .n) (g .args .args .now) (g .pre .1 .1) (g .pre .1 .0) (s .loop .i) (search needs))
+    (g .pre .0, argument-below (g .pre .0) (g .args .n) (g .args .args .now) (g .pre .1 .0) (g .pre .1 .1) (s .loop .i) (search needs))
 
 returns : tie.Need-returns Inv-loop μ-loop
 returns c =
