@@ -2,8 +2,8 @@
 -- Assumes nothing.
 use Prim.Native.Nat.{ℕ}
 use native.Mathlib.Omega.{arith}
-use mathlib.Core.Path.{_≡_}
-use mathlib.Core.List.{List}
+use mathlib.Core.Path.{_≡_, sym}
+use mathlib.Core.List.{List, [], _∷_}
 use Rattle.rules.specs.Layout.{classCount, functionCount, signatureCount, methodCount}
 use Rattle.rules.specs.Model.{modelOf, Wellformed}
 use Rattle.rules.proofs.Opening.{Rules, opened-rules}
@@ -12,6 +12,8 @@ use Rattle.rules.proofs.Wellformed.{opened-wellformed}
 use Rattle.layout.specs.Tables.{Tables, Placed}
 use Rattle.layout.specs.Opened.{Opened, opened}
 use Rattle.layout.specs.declared.bundle.Bundle.{Bundle}
+use Rattle.layout.specs.declared.finding.Opening.the-variants as answer
+use Rattle.layout.specs.Opening.{Opens}
 
 pub rules-of : {b : List ℕ} {t : Bundle} → Opened b t → Rules b
 rules-of {b} (opened counts e tables) = opened-rules b counts e
@@ -55,3 +57,7 @@ placed-of {b} o =
       method-end = omega arith;
       code-end = omega arith;
     }
+
+-- an opening that answers with tables has opened
+pub opened-of : {b : List ℕ} {t : Bundle} → Opens b (answer.Opened t) → Opened b t
+opened-of {b} {t} o = opened (t .classes ∷ t .functions ∷ t .signatures ∷ t .methods ∷ []) (sym (o .answer)) (o .tables)

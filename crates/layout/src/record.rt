@@ -3,8 +3,9 @@ use crate::bundle::Bundle;
 use crate::bytes::byte_at;
 use crate::bytes::word_at;
 ghost use mathlib.Core.Path.{_≡_};
-ghost use Prim.Native.Nat.{_<_};
-ghost use Rattle.rules.specs.Layout.{kindOf, listOffset, listLength, arityOf, sigFunctionOf, sigResultOf, functionOf, resultOf, bodyOffset, bodyLength};
+ghost use Prim.Native.Nat.{_+_, _<_};
+ghost use Rattle.rules.specs.Bytes.{byte};
+ghost use Rattle.rules.specs.Layout.{classAt, kindOf, listOffset, listLength, arityOf, sigFunctionOf, sigResultOf, functionOf, resultOf, bodyOffset, bodyLength};
 ghost use Rattle.layout.specs.Tables.{Placed};
 
 // The kind of class c.
@@ -95,4 +96,13 @@ pub fn body_length(bytes: &[u8], b: Bundle, m: usize) -> usize
     ensures { λ r. ⌜ (r ≡ bodyLength (now (bytes .entry)) m) × (r < 65536) ⌝ }
 {
     word_at(bytes, b.method_at + 12 * m + 10)
+}
+
+// The byte after the kind of class c.
+pub fn filler(bytes: &[u8], b: Bundle, c: usize) -> usize
+    requires { ⌜ Placed (now bytes) b ⌝ }
+    requires { ⌜ c < b .classes ⌝ }
+    ensures { λ r. ⌜ r ≡ byte (now (bytes .entry)) (classAt (now (bytes .entry)) c + 1) ⌝ }
+{
+    byte_at(bytes, b.class_at + 6 * c + 1)
 }

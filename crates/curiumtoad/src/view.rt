@@ -1,0 +1,41 @@
+// The body view: the part of the bundle that is a method's code.
+use crate::opening::finding;
+use crate::opening::number;
+use crate::opening::open;
+use crate::opening::record;
+use layout::field::body_span;
+use layout::finding::Opening;
+ghost use mathlib.Core.Path.{_≡_};
+ghost use Rattle.rules.specs.Calls.{bodyViewCall};
+ghost use Rattle.curiumtoad.specs.Refusal.{partOf, numberOf, recordOf};
+
+// The code of a method. An enum cannot hold a part of the bundle, so a refusal leaves by the two lent numbers: the number of the refusal and the
+// record it names, 0 where it names none, with an empty part. Both are 0 where there is no refusal.
+pub fn body_view<'a>(
+    bundle: &'a [u8],
+    method: usize,
+    refusal: &mut u8,
+    place: &mut usize,
+) -> &'a [u8]
+    ensures { λ r. ⌜ now r ≡ partOf (bodyViewCall (now (bundle .entry)) method) ⌝ }
+    ensures { λ r. ⌜ now (refusal .exit) ≡ numberOf (bodyViewCall (now (bundle .entry)) method) ⌝ }
+    ensures { λ r. ⌜ now (place .exit) ≡ recordOf (bodyViewCall (now (bundle .entry)) method) ⌝ }
+{
+    let opening = open(bundle);
+    let Opening::Opened(b) = opening else {
+        let found = finding(opening);
+        *refusal = number(found);
+        *place = record(found);
+        return &bundle[..0];
+    };
+    *place = 0;
+    if b.methods <= method {
+        *refusal = 18;
+        return &bundle[..0];
+    }
+    *refusal = 0;
+    let span = body_span(bundle, b, method);
+    let at = span.at;
+    let end = at + span.len;
+    &bundle[at..end]
+}
