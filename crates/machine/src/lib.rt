@@ -1,0 +1,4 @@
+// The stepper: frames in lent arrays, sends, single steps, and whole runs.
+pub mod ending;
+pub mod frames;
+pub mod landing;
