@@ -72,6 +72,12 @@ waiting-of (held l s w) = w
 pub waits-of : {M : Model} {fs vs : List ℕ} {n : ℕ} → Waiting M fs vs n → Waits M (callersOf M fs vs n)
 waits-of (waiting p q l w) = w
 
+pub waiting-long : {M : Model} {fs vs : List ℕ} {n : ℕ} → Waiting M fs vs n → 192 ≤ length fs
+waiting-long (waiting p q l w) = p
+
+pub waiting-few : {M : Model} {fs vs : List ℕ} {n : ℕ} → Waiting M fs vs n → n ≤ maxFrames
+waiting-few (waiting p q l w) = l
+
 pub numbers-of : {M : Model} {fs vs : List ℕ} {k : ℕ} → Held M fs vs k → Numbers M fs vs k
 unfolding frameOf
 numbers-of {M} {fs} {vs} {k} (held l s (waiting p q n w)) =

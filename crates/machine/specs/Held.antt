@@ -5,6 +5,7 @@ use mathlib.Core.Path.{_≡_}
 use mathlib.Core.Bool.{true}
 use mathlib.Core.List.{List, [], _∷_}
 use lib.ListN.{length, getD, take, drop, set}
+use Rattle.rules.specs.Layout.{places, tupleRule}
 use Rattle.rules.specs.Model.{Model, Instr, arg, present}
 use Rattle.rules.specs.Machine.{Frame, Landing, land, maxFrames}
 
@@ -75,6 +76,10 @@ pub data Held (M : Model) (fs vs : List ℕ) (k : ℕ) : Type 0 where
 -- frame k with an instruction left.
 pub data Going (M : Model) (fs vs : List ℕ) (k : ℕ) : Type 0 where
   going : nextAt fs k < length (M .body (methodAt fs k)) → Held M fs vs k → Going M fs vs k
+
+-- A send of function f with three argument classes: those at its places are the bundle's, the unused are 0.
+pub data Sending (M : Model) (f : ℕ) (args : List ℕ) : Type 0 where
+  sending : f < M .functions → length args ≡ places → tupleRule (M .classes) (M .arity f) args ≡ true → Sending M f args
 
 -- What the arrays hold after a value v is put on the stack of frame k, after its instruction is passed, and after n values are taken off;
 abbrev pub raised : List ℕ → ℕ → List ℕ
