@@ -75,6 +75,9 @@ waits-of (waiting p q l w) = w
 pub waiting-long : {M : Model} {fs vs : List ℕ} {n : ℕ} → Waiting M fs vs n → 192 ≤ length fs
 waiting-long (waiting p q l w) = p
 
+pub waiting-wide : {M : Model} {fs vs : List ℕ} {n : ℕ} → Waiting M fs vs n → 2048 ≤ length vs
+waiting-wide (waiting p q l w) = q
+
 pub waiting-few : {M : Model} {fs vs : List ℕ} {n : ℕ} → Waiting M fs vs n → n ≤ maxFrames
 waiting-few (waiting p q l w) = l
 
@@ -100,10 +103,10 @@ module _ (M : Model) (fs fs′ vs vs′ : List ℕ) (k : ℕ) where
       waiting (omega (arith, e, a)) (omega (arith, f, b)) n (rw (callers-same M fs fs′ vs vs′ k p q w) w)
 
 -- a store elsewhere changes no number
-kept : (l : List ℕ) (at v i : ℕ) → (i ≡ at → ⊥) → getD (set l at v) i 0 ≡ getD l i 0
+pub kept : (l : List ℕ) (at v i : ℕ) → (i ≡ at → ⊥) → getD (set l at v) i 0 ≡ getD l i 0
 kept l at v i d = getD-set-other l at i v 0 d
 
-kept-below : (l : List ℕ) (at v n : ℕ) → n ≤ at → (i : ℕ) → i < n → getD (set l at v) i 0 ≡ getD l i 0
+pub kept-below : (l : List ℕ) (at v n : ℕ) → n ≤ at → (i : ℕ) → i < n → getD (set l at v) i 0 ≡ getD l i 0
 kept-below l at v n h i l′ = kept l at v i (λ e. omega arith)
 
 -- a value on the stack of frame k

@@ -7,7 +7,7 @@ use mathlib.Core.List.{List, [], _∷_}
 use lib.ListN.{length, getD, take, drop, set}
 use Rattle.rules.specs.Layout.{places, tupleRule}
 use Rattle.rules.specs.Model.{Model, Instr, arg, present}
-use Rattle.rules.specs.Machine.{Frame, Landing, land, maxFrames}
+use Rattle.rules.specs.Machine.{Frame, Landing, Turn, land, turn, maxFrames}
 
 -- the numbers of frame k: its method, the number of its next instruction, the height of its stack, and three argument classes
 abbrev pub methodAt : List ℕ → ℕ → ℕ
@@ -49,6 +49,10 @@ nextOf M fs k = getD (M .body (methodAt fs k)) (nextAt fs k) (arg 0)
 
 unfoldable pub split : Model → Frame → Frame
 split M g = record { method = g .method; args = g .args; at = g .at; rest = drop (suc (g .at)) (M .body (g .method)); stack = g .stack }
+
+-- one instruction of frame k, with that instruction split off
+unfoldable pub turnAt : Model → List ℕ → List ℕ → ℕ → Instr → Turn
+turnAt M fs vs k i = turn M i (split M (frameOf M fs vs k)) (callersOf M fs vs k)
 
 -- A frame that the arrays have room for: a method of the bundle, an instruction of its body or the end, argument classes and values of the bundle,
 -- and no more values than instructions passed, less those for which the frame still waits.
@@ -99,3 +103,10 @@ abbrev pub begun : List ℕ → ℕ → ℕ → List ℕ → List ℕ
 begun fs k m args =
     let empty = set (set (set fs (6 * k) m) (6 * k + 1) 0) (6 * k + 2) 0 in
     set (set (set empty (6 * k + 3) (getD args 0 0)) (6 * k + 4) (getD args 1 0)) (6 * k + 5) (getD args 2 0)
+
+-- the values of n places from a place on, as the three places of a send: the unused are 0
+abbrev pub gathered : List ℕ → ℕ → ℕ → List ℕ
+gathered vs from zero = 0 ∷ 0 ∷ 0 ∷ []
+gathered vs from (suc zero) = getD vs from 0 ∷ 0 ∷ 0 ∷ []
+gathered vs from (suc (suc zero)) = getD vs from 0 ∷ getD vs (from + 1) 0 ∷ 0 ∷ []
+gathered vs from (suc (suc (suc n))) = getD vs from 0 ∷ getD vs (from + 1) 0 ∷ getD vs (from + 2) 0 ∷ []

@@ -5,7 +5,7 @@ ghost use Prim.Native.Nat.{_+_, _*_, _<_, _≤_};
 ghost use lib.ListN.{length, getD};
 ghost use Rattle.rules.specs.Layout.{places};
 ghost use Rattle.rules.specs.Machine.{maxFrames};
-ghost use Rattle.machine.specs.Held.{methodAt, nextAt, heightAt, raised, laid, passed, lowered, begun};
+ghost use Rattle.machine.specs.Held.{methodAt, nextAt, heightAt, raised, laid, passed, lowered, begun, gathered};
 
 // The numbers and the values of a frame, and how many frames there can be.
 pub const NUMBERS: usize = 6;
@@ -108,4 +108,22 @@ pub fn begin(frames: &mut [usize], k: usize, m: usize, args: &[usize])
     frames[at + 3] = args[0];
     frames[at + 4] = args[1];
     frames[at + 5] = args[2];
+}
+
+// The n values from a place on, as the three places of a send.
+pub fn gather(values: &[usize], from: usize, n: usize) -> [usize; 3]
+    requires { ⌜ from + n ≤ length (now values) ⌝ }
+    requires { ⌜ n ≤ places ⌝ }
+    ensures { λ r. ⌜ r ≡ gathered (now (values .entry)) from n ⌝ }
+{
+    if n == 0 {
+        return [0, 0, 0];
+    }
+    if n == 1 {
+        return [values[from], 0, 0];
+    }
+    if n == 2 {
+        return [values[from], values[from + 1], 0];
+    }
+    [values[from], values[from + 1], values[from + 2]]
 }

@@ -3,3 +3,5 @@ pub mod call;
 pub mod ending;
 pub mod frames;
 pub mod landing;
+pub mod run;
+pub mod step;
