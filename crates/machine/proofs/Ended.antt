@@ -94,7 +94,7 @@ module _ (M : Model) (fs vs : List ℕ) where
       land-value _ (callersOf M fs vs k) (getD vs (64 * k) 0) (ap (callersOf M fs vs) z) (drop-of-length-le (M .body (methodAt fs k)) e) (one-value k f)
 
   -- the lowest value of a frame is a class
-  pub value-present : (k : ℕ) → Held M fs vs k → heightAt fs k ≡ 1 → getD vs (64 * k) 0 < M .classes
+  value-present : (k : ℕ) → Held M fs vs k → heightAt fs k ≡ 1 → getD vs (64 * k) 0 < M .classes
   unfolding frameOf present every
   value-present k h f =
       let v = getD vs (64 * k) 0 in

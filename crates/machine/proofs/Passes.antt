@@ -19,7 +19,7 @@ use Rattle.rules.specs.Types.{arguments}
 use Rattle.rules.specs.Machine.{Frame, push, after, land, call, turn, made, failed, stopped, stoppedAt, maxFrames}
 use Rattle.rules.proofs.Lists.{and-left, and-right, and-both, every-place}
 use Rattle.machine.specs.Held.{methodAt, nextAt, heightAt, tupleAt, stackFrom, frame, frameOf, callersOf, landed, split, turnAt, Sound, Waiting, waiting, Held, held, Going, going, Sending, sending, raised, laid, passed, lowered, gathered}
-use Rattle.machine.proofs.Stores.{length-stack, drop-stack, kept, kept-below, callers-same, waiting-same, numbers-of, sound-of, waiting-of, waits-of, waiting-long, waiting-wide, pushed-frame, pushed-callers, pushed-waiting}
+use Rattle.machine.proofs.Stores.{length-stack, drop-stack, kept, kept-below, callers-same, waiting-same, numbers-of, sound-of, waiting-of, waits-of, waiting-long, waiting-wide, pushed-frame, pushed-callers, pushed-waiting, lowered-frame}
 
 pub held-of : {M : Model} {fs vs : List ℕ} {k : ℕ} → Going M fs vs k → Held M fs vs k
 held-of (going l h) = h
@@ -47,19 +47,6 @@ passed-frame M fs vs k few p =
       kept fs (6 * k + 1) (nextAt fs k + 1) (6 * k + 4) (λ e. omega arith),
       kept fs (6 * k + 1) (nextAt fs k + 1) (6 * k + 5) (λ e. omega arith),
       n,
-    )
-
-lowered-frame : (M : Model) (fs vs : List ℕ) (k h : ℕ) → k < maxFrames → 192 ≤ length fs
-    → frameOf M (lowered fs k h) vs k ≡ frame M (methodAt fs k) (nextAt fs k) (tupleAt fs k) (stackFrom vs (64 * k) h)
-unfolding frameOf
-lowered-frame M fs vs k h few p =
-    rw (
-      kept fs (6 * k + 2) h (6 * k) (λ e. omega arith),
-      kept fs (6 * k + 2) h (6 * k + 1) (λ e. omega arith),
-      kept fs (6 * k + 2) h (6 * k + 3) (λ e. omega arith),
-      kept fs (6 * k + 2) h (6 * k + 4) (λ e. omega arith),
-      kept fs (6 * k + 2) h (6 * k + 5) (λ e. omega arith),
-      getD-set-same fs (6 * k + 2) h 0 (omega arith),
     )
 
 -- a frame that has passed an instruction, with a stack that has room
@@ -101,7 +88,7 @@ stack-below M vs base (suc h) e i l = go (eq-or-lt-of-le (le-of-suc-le-suc l)) (
     go (inr q) r = r q
 
 -- The arguments of a send are the top values, "last argument on top".
-pub gathered-three : (vs : List ℕ) (from n : ℕ) → length (gathered vs from n) ≡ places
+gathered-three : (vs : List ℕ) (from n : ℕ) → length (gathered vs from n) ≡ places
 gathered-three vs from zero = refl
 gathered-three vs from (suc zero) = refl
 gathered-three vs from (suc (suc zero)) = refl
@@ -261,7 +248,7 @@ module _ (M : Model) (w : Wellformed M) (fs vs : List ℕ) (k : ℕ) (g : Going 
         → Sending M f args × Waiting M fs″ vs (k + 1) × (call M f (take (M .arity f) args) (callersOf M fs″ vs (k + 1)) ≡ turnAt M fs vs k (send f))
     send-called e few below fs′ fs″ args p q r = rw (r, q, p, add-one k) (sent-tuple e few below, sent-waiting, sends e few)
 
-  -- "SEND takes as many … as the function has arguments …(14 when there are fewer)"
+  -- 14 where there are fewer values than arguments
   pub send-stops : (f : ℕ) → heightAt fs k < M .arity f → turnAt M fs vs k (send f) ≡ failed (stopped 14 (methodAt fs k ∷ nextAt fs k ∷ []))
   unfolding turnAt turn frameOf split stoppedAt
   send-stops f h =

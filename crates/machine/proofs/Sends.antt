@@ -78,37 +78,31 @@ padded-tuple M n t l h e =
     (subst (λ (u : List ℕ). every (λ c. eqb c 0) (drop n u) ≡ true) (three t l)
     (and-right (every (λ c. ltb c (M .classes)) (take n t)) (every (λ c. eqb c 0) (drop n t)) e))
 
+pub sent-three : {M : Model} {f : ℕ} {args : List ℕ} → Sending M f args → length args ≡ places
+sent-three (sending h l e) = l
+
+sent-below : {M : Model} {f : ℕ} {args : List ℕ} → Sending M f args → f < M .functions
+sent-below (sending h l e) = h
+
+sent-rule : {M : Model} {f : ℕ} {args : List ℕ} → Sending M f args → tupleRule (M .classes) (M .arity f) args ≡ true
+sent-rule (sending h l e) = e
+
 -- what a send's arguments are for the functions that it goes through
 module _ {b : List ℕ} {t : Bundle} {f : ℕ} {args : List ℕ} (o : Opened b t) (s : Sending (modelOf b) f args) where
   pub sent-function : f < t .functions
-  sent-function = go s
-    where
-      go : Sending (modelOf b) f args → f < t .functions
-      go (sending h l e) = omega (arith, counts-of o)
-
-  pub sent-three : length args ≡ places
-  sent-three = go s
-    where
-      go : Sending (modelOf b) f args → length args ≡ places
-      go (sending h l e) = l
-
-  sent-rule : tupleRule (modelOf b .classes) (modelOf b .arity f) args ≡ true
-  sent-rule = go s
-    where
-      go : Sending (modelOf b) f args → tupleRule (modelOf b .classes) (modelOf b .arity f) args ≡ true
-      go (sending h l e) = e
+  sent-function = omega (arith, counts-of o, sent-below s)
 
   sent-few : modelOf b .arity f ≤ places
-  sent-few = wellformed-of o .arity-limit f (omega (arith, counts-of o, sent-function))
+  sent-few = wellformed-of o .arity-limit f (sent-below s)
 
   pub sent-long : modelOf b .arity f ≤ length args
-  sent-long = omega (arith, sent-few, sent-three)
+  sent-long = omega (arith, sent-few, sent-three s)
 
   pub sent-present : present (modelOf b) (take (modelOf b .arity f) args) ≡ true
-  sent-present = tuple-present (modelOf b) (modelOf b .arity f) args sent-rule
+  sent-present = tuple-present (modelOf b) (modelOf b .arity f) args (sent-rule s)
 
   pub sent-padded : padded (take (modelOf b .arity f) args) ≡ getD args 0 0 ∷ getD args 1 0 ∷ getD args 2 0 ∷ []
-  sent-padded = padded-tuple (modelOf b) (modelOf b .arity f) args sent-three sent-few sent-rule
+  sent-padded = padded-tuple (modelOf b) (modelOf b .arity f) args (sent-three s) sent-few (sent-rule s)
 
   -- what asking the declared classes of a method of the function requires
   pub sent-declared : (n m : ℕ) → n ≡ modelOf b .arity f → modelOf b .function m ≡ f

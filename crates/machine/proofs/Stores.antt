@@ -9,7 +9,7 @@ use lib.ListN.{length, getD, drop, set, length-set}
 use lib.Seq.{getD-set-same, getD-set-other}
 use Rattle.rules.specs.Model.{Model}
 use Rattle.rules.specs.Machine.{Frame, push, maxFrames}
-use Rattle.machine.specs.Held.{methodAt, nextAt, heightAt, tupleAt, stackFrom, frame, frameOf, callersOf, Sound, Waits, Waiting, waiting, Held, held, raised, laid}
+use Rattle.machine.specs.Held.{methodAt, nextAt, heightAt, tupleAt, stackFrom, frame, frameOf, callersOf, Sound, Waits, Waiting, waiting, Held, held, raised, laid, lowered}
 
 pub length-stack : (vs : List ℕ) (base h : ℕ) → length (stackFrom vs base h) ≡ h
 length-stack vs base zero = refl
@@ -109,24 +109,29 @@ kept l at v i d = getD-set-other l at i v 0 d
 pub kept-below : (l : List ℕ) (at v n : ℕ) → n ≤ at → (i : ℕ) → i < n → getD (set l at v) i 0 ≡ getD l i 0
 kept-below l at v n h i l′ = kept l at v i (λ e. omega arith)
 
+-- another height for frame k
+pub lowered-frame : (M : Model) (fs vs : List ℕ) (k h : ℕ) → k < maxFrames → 192 ≤ length fs
+    → frameOf M (lowered fs k h) vs k ≡ frame M (methodAt fs k) (nextAt fs k) (tupleAt fs k) (stackFrom vs (64 * k) h)
+unfolding frameOf
+lowered-frame M fs vs k h few p =
+    rw (
+      kept fs (6 * k + 2) h (6 * k) (λ e. omega arith),
+      kept fs (6 * k + 2) h (6 * k + 1) (λ e. omega arith),
+      kept fs (6 * k + 2) h (6 * k + 3) (λ e. omega arith),
+      kept fs (6 * k + 2) h (6 * k + 4) (λ e. omega arith),
+      kept fs (6 * k + 2) h (6 * k + 5) (λ e. omega arith),
+      getD-set-same fs (6 * k + 2) h 0 (omega arith),
+    )
+
 -- a value on the stack of frame k
 module _ (M : Model) (fs vs : List ℕ) (k v : ℕ) (few : k < maxFrames) (p : 192 ≤ length fs) (q : 2048 ≤ length vs) (h : heightAt fs k < 64) where
   pub pushed-frame : frameOf M (raised fs k) (laid fs vs k v) k ≡ push v (frameOf M fs vs k)
   unfolding frameOf push
   pushed-frame =
-      let n : heightAt (raised fs k) k ≡ suc (heightAt fs k) = getD-set-same fs (6 * k + 2) (heightAt fs k + 1) 0 (omega arith) ∙ add-one (heightAt fs k) in
-      let top : getD (laid fs vs k v) (64 * k + heightAt fs k) 0 ≡ v = getD-set-same vs (64 * k + heightAt fs k) v 0 (omega arith) in
-      let rest = stack-same vs (laid fs vs k v) (64 * k) (heightAt fs k) (kept-below vs (64 * k + heightAt fs k) v (64 * k + heightAt fs k) (omega arith)) in
-      rw (
-        kept fs (6 * k + 2) (heightAt fs k + 1) (6 * k) (λ e. omega arith),
-        kept fs (6 * k + 2) (heightAt fs k + 1) (6 * k + 1) (λ e. omega arith),
-        kept fs (6 * k + 2) (heightAt fs k + 1) (6 * k + 3) (λ e. omega arith),
-        kept fs (6 * k + 2) (heightAt fs k + 1) (6 * k + 4) (λ e. omega arith),
-        kept fs (6 * k + 2) (heightAt fs k + 1) (6 * k + 5) (λ e. omega arith),
-        n,
-        top,
-        rest,
-      )
+      let vs′ = laid fs vs k v in
+      let top : getD vs′ (64 * k + heightAt fs k) 0 ≡ v = getD-set-same vs (64 * k + heightAt fs k) v 0 (omega arith) in
+      let rest = stack-same vs vs′ (64 * k) (heightAt fs k) (kept-below vs (64 * k + heightAt fs k) v (64 * k + heightAt fs k) (omega arith)) in
+      lowered-frame M fs vs′ k (heightAt fs k + 1) few p ∙ rw (add-one (heightAt fs k), top, rest)
 
   pub pushed-callers : Waiting M fs vs k → callersOf M (raised fs k) (laid fs vs k v) k ≡ callersOf M fs vs k
   pushed-callers w =

@@ -25,25 +25,25 @@ enum-told : tie.Need-enum-told
 enum-told c = search needs
 
 shared-slice-read-t15 : tie.Need-shared-slice-read-t15
-shared-slice-read-t15 c = let p = c .before .before .before .before .before .before .before .before .before .pre in omega (arith, sent-three (p .0) (p .1 .1 .0))
+shared-slice-read-t15 c = let p = c .before .before .before .before .before .before .before .before .before .pre in omega (arith, sent-three (p .1 .1 .0))
 
 shared-slice-read-t17 : tie.Need-shared-slice-read-t17
-shared-slice-read-t17 c = let p = c .before .before .before .before .before .before .before .before .before .before .pre in omega (arith, sent-three (p .0) (p .1 .1 .0))
+shared-slice-read-t17 c = let p = c .before .before .before .before .before .before .before .before .before .before .pre in omega (arith, sent-three (p .1 .1 .0))
 
 shared-slice-read-t19 : tie.Need-shared-slice-read-t19
-shared-slice-read-t19 c = let p = c .before .before .before .before .before .before .before .before .before .before .before .pre in omega (arith, sent-three (p .0) (p .1 .1 .0))
+shared-slice-read-t19 c = let p = c .before .before .before .before .before .before .before .before .before .before .before .pre in omega (arith, sent-three (p .1 .1 .0))
 
 enum-known-found : tie.Need-enum-known-found
 enum-known-found c = search needs
 
 shared-slice-read-t22 : tie.Need-shared-slice-read-t22
-shared-slice-read-t22 c = let p = c .before .before .before .before .before .before .before .before .before .before .pre in omega (arith, sent-three (p .0) (p .1 .1 .0))
+shared-slice-read-t22 c = let p = c .before .before .before .before .before .before .before .before .before .before .pre in omega (arith, sent-three (p .1 .1 .0))
 
 shared-slice-read-t24 : tie.Need-shared-slice-read-t24
-shared-slice-read-t24 c = let p = c .before .before .before .before .before .before .before .before .before .before .before .pre in omega (arith, sent-three (p .0) (p .1 .1 .0))
+shared-slice-read-t24 c = let p = c .before .before .before .before .before .before .before .before .before .before .before .pre in omega (arith, sent-three (p .1 .1 .0))
 
 shared-slice-read-t26 : tie.Need-shared-slice-read-t26
-shared-slice-read-t26 c = let p = c .before .before .before .before .before .before .before .before .before .before .before .before .pre in omega (arith, sent-three (p .0) (p .1 .1 .0))
+shared-slice-read-t26 c = let p = c .before .before .before .before .before .before .before .before .before .before .before .before .pre in omega (arith, sent-three (p .1 .1 .0))
 
 enum-known-found-2 : tie.Need-enum-known-found-2
 enum-known-found-2 c = search needs

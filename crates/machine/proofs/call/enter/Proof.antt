@@ -40,13 +40,13 @@ below : (c : tie.Else2) → c .before .before .before .before .before .before .b
 below c = let g = c .before .before .before .before .before .before .before .before .before in omega (arith, c .if2 .left, waiting-few (g .pre .1 .1 .1 .1 .1))
 
 shared-slice-read-t14 : tie.Need-shared-slice-read-t14
-shared-slice-read-t14 c = let p = c .before .before .before .before .before .before .before .before .before .pre in omega (arith, sent-three (p .0) (p .1 .1 .0))
+shared-slice-read-t14 c = let p = c .before .before .before .before .before .before .before .before .before .pre in omega (arith, sent-three (p .1 .1 .0))
 
 shared-slice-read-t16 : tie.Need-shared-slice-read-t16
-shared-slice-read-t16 c = let p = c .before .before .before .before .before .before .before .before .before .before .pre in omega (arith, sent-three (p .0) (p .1 .1 .0))
+shared-slice-read-t16 c = let p = c .before .before .before .before .before .before .before .before .before .before .pre in omega (arith, sent-three (p .1 .1 .0))
 
 shared-slice-read-t18 : tie.Need-shared-slice-read-t18
-shared-slice-read-t18 c = let p = c .before .before .before .before .before .before .before .before .before .before .before .pre in omega (arith, sent-three (p .0) (p .1 .1 .0))
+shared-slice-read-t18 c = let p = c .before .before .before .before .before .before .before .before .before .before .before .pre in omega (arith, sent-three (p .1 .1 .0))
 
 returns : tie.Need-returns
 unfolding turnOf endingOf
@@ -67,7 +67,7 @@ begin-requires : tie.Need-begin-requires
 begin-requires c κs =
     let g = c .before .before .before .before .before .before .before .before .before .before in
     let p = g .pre in
-    (below (c .before), (waiting-long (p .1 .1 .1 .1 .1), omega (arith, sent-three (p .0) (p .1 .1 .0))))
+    (below (c .before), (waiting-long (p .1 .1 .1 .1 .1), omega (arith, sent-three (p .1 .1 .0))))
 
 -- the frame that is opened
 opens : (c : tie.After-begin)
