@@ -1,0 +1,5 @@
+pub mod Stores
+pub mod Ended
+pub mod Sends
+pub mod Passes
+pub mod Runs
