@@ -6,3 +6,5 @@ pub mod Bodies
 pub mod Operands
 pub mod Broken
 pub mod Judging
+pub mod Narrowing
+pub mod Searching
