@@ -10,7 +10,7 @@ use mathlib.Core.List.{List, [], _∷_, _++_, List·Memᴰ, List·Memᴰ·append
 use lib.Dec.{ltb, eqb}
 use lib.ListN.{length, getD, take, set, length-set}
 use lib.Seq.{take-suc-set, length-take-le}
-use borrow.Author.Tests.{lt-ltb, eqb-true, eq-eqb}
+use borrow.Author.Tests.{lt-ltb}
 use Rattle.rules.specs.Bounded.{upto, every, keep}
 use Rattle.rules.specs.Layout.{places}
 use Rattle.rules.specs.Model.{Model, modelOf, present}
@@ -91,7 +91,6 @@ module _ {b : List ℕ} {t : Bundle} (o : Opened b t) {s f n : ℕ} where
         signature = omega arith;
         ofSignature = e;
         arguments = a;
-        within = omega arith;
         room = r;
         classes = refl;
         counted = c;
@@ -126,7 +125,6 @@ module _ {b : List ℕ} {t : Bundle} (o : Opened b t) {s f n : ℕ} where
           signature = g .signature;
           ofSignature = g .ofSignature;
           arguments = g .arguments;
-          within = g .within;
           room = omega (arith, g .room);
           classes = rw e (g .classes);
           counted = g .counted;
@@ -149,7 +147,6 @@ module _ {b : List ℕ} {t : Bundle} (o : Opened b t) {s f n : ℕ} where
           signature = g .signature;
           ofSignature = g .ofSignature;
           arguments = g .arguments;
-          within = omega arith;
           room = omega (arith, g .room, length-set chosen place k);
           classes = rw (chosen-more chosen place k inside) (present-more M (take place chosen) k (g .classes) (omega arith));
           counted = r;

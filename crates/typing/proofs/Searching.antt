@@ -8,19 +8,20 @@ use mathlib.Core.Path.{_≡_, refl, sym, ap, subst, fun-ext, _∙_}
 use mathlib.Core.Bool.{Bool, true, false}
 use mathlib.Core.Logic.{_⊎_, inl, inr}
 use mathlib.Core.List.{List, [], _∷_, _++_, map, append-nil, append-assoc}
-use mathlib.Core.Option.{Option, none, some, Option·map}
+use mathlib.Core.Option.{Option, none, Option·map}
 use lib.ListN.{length, getD, take, drop, set, replicate, length-append, length-replicate, getD-replicate, List·getD-append}
 use lib.Seq.{drop-cons, drop-length, take-take, take-set-le, length-take-le, getD-take, getD-append-add, ext-getD}
 use Rattle.rules.specs.Bounded.{upto, keep, first}
 use Rattle.rules.specs.Layout.{places, padded}
 use Rattle.rules.specs.Model.{Model}
-use Rattle.rules.specs.Coverage.{judge, failing, concreteUnder, prefixed, tuples, brokenTuple}
-use Rattle.rules.proofs.Lists.{test, keep-hit, keep-miss, first-hit, first-miss, first-append-none, first-append-some, length-upto, getD-upto}
+use Rattle.rules.specs.Coverage.{judge, failing, concreteUnder, prefixed, tuples, brokenTuple, isSome, brokenSignature}
+use Rattle.rules.proofs.Lists.{test, keep-hit, keep-miss, first-hit, first-miss, first-append-none, first-append-some, length-upto, getD-upto, none-lowest, some-lowest}
 use Rattle.typing.specs.declared.coverage.Coverage.{Coverage}
 use Rattle.typing.specs.declared.coverage.Coverage.the-variants.{Covered, Broken}
+use Rattle.typing.specs.declared.coverage.Signatures.the-variants.{BrokenAt}
 use Rattle.typing.specs.declared.judge.Judgement.{Judgement}
 use Rattle.typing.specs.Judged.{judgementOf}
-use Rattle.typing.specs.Searched.{tried, searched, Searched, Whole}
+use Rattle.typing.specs.Searched.{tried, searched, Outcome, Whole, Lowest}
 use Rattle.typing.proofs.Narrowing.{chosen-more}
 
 first-map : {A B : Type 0} (p : B → Bool) (f : A → B) (xs : List A) → first p (map f xs) ≡ Option·map f (first (λ x. p (f x)) xs)
@@ -57,11 +58,11 @@ module _ (M : Model) (s : ℕ) (filled : List ℕ) where
     judged-filled : broken M s filled [] ≡ failing (judgementOf j)
     judged-filled = ap (λ (t : List ℕ). failing (judge M s t)) (append-nil filled) ∙ ap failing (sym q)
 
-    pub filled-holds : failing (judgementOf j) ≡ false → Searched M s n filled rest after Covered
+    pub filled-holds : failing (judgementOf j) ≡ false → Outcome M s n filled rest after Covered
     unfolding searched tuples first
     filled-holds f = rw e (first-miss (broken M s filled) [] [] (judged-filled ∙ f))
 
-    pub filled-breaks : take n after ≡ filled → failing (judgementOf j) ≡ true → Searched M s n filled rest after (Broken j)
+    pub filled-breaks : take n after ≡ filled → failing (judgementOf j) ≡ true → Outcome M s n filled rest after (Broken j)
     unfolding searched tuples
     filled-breaks g f = (
       [],
@@ -104,8 +105,8 @@ module _ (M : Model) (s : ℕ) (filled : List ℕ) where
           (fun-ext (λ t. ap (λ (u : List ℕ). failing (judge M s u)) (sym (append-assoc filled (k ∷ []) t))))
 
       -- an answer of that search, whose filled places are the same, is one of the whole
-      module _ (n : ℕ) (same after : List ℕ) (r : Coverage) (f : same ≡ filled) (w : Searched M s n (same ++ (k ∷ [])) rest after r) where
-        answered : Searched M s n (filled ++ (k ∷ [])) rest after r
+      module _ (n : ℕ) (same after : List ℕ) (r : Coverage) (f : same ≡ filled) (w : Outcome M s n (same ++ (k ∷ [])) rest after r) where
+        answered : Outcome M s n (filled ++ (k ∷ [])) rest after r
         answered = rw f at w
 
         pub class-holds : r ≡ Covered → remaining M s filled c rest k ≡ remaining M s filled c rest (k + 1)
@@ -113,12 +114,12 @@ module _ (M : Model) (s : ℕ) (filled : List ℕ) where
         class-holds q =
             class-split
             ∙ first-append-none (broken M s filled) (map (λ t. k ∷ t) (tuples M rest)) later
-            (class-filled ∙ ap (Option·map (λ t. k ∷ t)) (subst (Searched M s n (filled ++ (k ∷ [])) rest after) q answered))
+            (class-filled ∙ ap (Option·map (λ t. k ∷ t)) (subst (Outcome M s n (filled ++ (k ∷ [])) rest after) q answered))
 
         pub class-breaks : (whole : List ℕ) (j : Judgement) → searched M s filled whole ≡ remaining M s filled c rest k → r ≡ Broken j
-            → Searched M s n filled whole after (Broken j)
+            → Outcome M s n filled whole after (Broken j)
         class-breaks whole j d q =
-            let (t, e, g, u) = subst (Searched M s n (filled ++ (k ∷ [])) rest after) q answered in (
+            let (t, e, g, u) = subst (Outcome M s n (filled ++ (k ∷ [])) rest after) q answered in (
               k ∷ t,
               d
                   ∙ class-split
@@ -141,8 +142,8 @@ no-place xs place e = ap (λ (i : ℕ). drop i xs) (sym e) ∙ drop-length xs
 
 -- a search with class k stored at the next place is one with the places before it and k filled
 pub stored-search : (M : Model) (s n place k next : ℕ) (chosen after : List ℕ) (r : Coverage) → next ≡ place + 1 → place < length chosen
-    → take next after ≡ take next (set chosen place k) → Searched M s n (take next (set chosen place k)) (drop next (M .sigArgs s)) after r
-    → (take place after ≡ take place chosen) × Searched M s n (take place chosen ++ (k ∷ [])) (drop (place + 1) (M .sigArgs s)) after r
+    → take next after ≡ take next (set chosen place k) → Outcome M s n (take next (set chosen place k)) (drop next (M .sigArgs s)) after r
+    → (take place after ≡ take place chosen) × Outcome M s n (take place chosen ++ (k ∷ [])) (drop (place + 1) (M .sigArgs s)) after r
 stored-search M s n place k next chosen after r e h q w =
     let below : place ≤ next = omega arith in (
       sym (take-take place next after below)
@@ -174,9 +175,26 @@ padded-by n t l h e q z =
 -- a search with no place filled is that of the signature; `final` is what it leaves, with the unused places set to 0
 pub whole-search : (M : Model) (s n place : ℕ) (chosen after final : List ℕ) (r : Coverage) → place ≡ 0 → n ≤ places → length final ≡ places
     → take n final ≡ take n after → ((i : ℕ) → n ≤ i → getD final i 0 ≡ 0)
-    → Searched M s n (take place chosen) (drop place (M .sigArgs s)) after r → Whole M s final r
+    → Outcome M s n (take place chosen) (drop place (M .sigArgs s)) after r → Whole M s final r
 unfolding searched brokenTuple
 whole-search M s n place chosen after final Covered e h l q z w = rw e at w
 whole-search M s n place chosen after final (Broken j) e h l q z w =
     let (t, d, g, u) = rw e at w in
     (t, d, padded-by n t final h l (q ∙ g) z, u)
+
+-- a signature whose search finds nothing is not broken; one whose search finds a tuple, with none before it broken, is the lowest
+module _ (M : Model) (s : ℕ) (after : List ℕ) (r : Coverage) (w : Whole M s after r) where
+  pub signature-holds : r ≡ Covered → isSome (brokenTuple M s) ≡ false
+  unfolding isSome
+  signature-holds q = ap isSome (subst (Whole M s after) q w)
+
+  pub signature-breaks : (j : Judgement) → r ≡ Broken j → s < M .signatures → ((i : ℕ) → i < s → isSome (brokenTuple M i) ≡ false)
+      → Lowest M after (BrokenAt s j)
+  unfolding brokenSignature isSome
+  signature-breaks j q h low =
+      let d = subst (Whole M s after) q w in
+      (some-lowest (λ s. isSome (brokenTuple M s)) (M .signatures) s h (ap isSome (d .1)) low, d)
+
+pub signatures-hold : (M : Model) → ((i : ℕ) → i < M .signatures → isSome (brokenTuple M i) ≡ false) → brokenSignature M ≡ none
+unfolding brokenSignature
+signatures-hold M h = none-lowest (λ s. isSome (brokenTuple M s)) (M .signatures) h

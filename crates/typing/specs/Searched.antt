@@ -11,9 +11,11 @@ use Rattle.rules.specs.Layout.{padded}
 use Rattle.rules.specs.Model.{Model, present}
 use Rattle.rules.specs.Subclass.{subclass}
 use Rattle.rules.specs.Lookup.{applicableSoFar}
-use Rattle.rules.specs.Coverage.{judge, failing, concreteClass, tuples, brokenTuple}
+use Rattle.rules.specs.Coverage.{judge, failing, concreteClass, tuples, brokenTuple, brokenSignature}
 use Rattle.typing.specs.declared.coverage.Coverage.{Coverage}
 use Rattle.typing.specs.declared.coverage.Coverage.the-variants.{Covered, Broken}
+use Rattle.typing.specs.declared.coverage.Signatures.{Signatures}
+use Rattle.typing.specs.declared.coverage.Signatures.the-variants.{AllCovered, BrokenAt}
 use Rattle.typing.specs.Judged.{judgementOf}
 
 -- k is a class to try at a place where the signature has class c
@@ -33,19 +35,23 @@ pub record Filling (M : Model) (s f n place : ℕ) (chosen list : List ℕ) (cou
   pub signature : s < M .signatures
   pub ofSignature : f ≡ M .sigFunction s
   pub arguments : n ≡ M .arity f
-  pub within : place ≤ n
   pub room : n ≤ length chosen
   pub classes : present M (take place chosen) ≡ true
   pub counted : count ≤ length list
   pub methods : take count list ≡ applicableSoFar M f (take place chosen)
 
 -- What a search that leaves the tuple in `after` answers: no tuple is broken, or that one is, with its judgement.
-abbrev pub Searched : Model → ℕ → ℕ → List ℕ → List ℕ → List ℕ → Coverage → Type 0
-Searched M s n filled rest after Covered = searched M s filled rest ≡ none
-Searched M s n filled rest after (Broken j) =
+abbrev pub Outcome : Model → ℕ → ℕ → List ℕ → List ℕ → List ℕ → Coverage → Type 0
+Outcome M s n filled rest after Covered = searched M s filled rest ≡ none
+Outcome M s n filled rest after (Broken j) =
     (t : List ℕ) × (searched M s filled rest ≡ some t) × (take n after ≡ filled ++ t) × (judgementOf j ≡ judge M s (filled ++ t))
 
 -- The same of a whole signature, the tuple in as many places as the layout has.
 abbrev pub Whole : Model → ℕ → List ℕ → Coverage → Type 0
 Whole M s after Covered = brokenTuple M s ≡ none
 Whole M s after (Broken j) = (t : List ℕ) × (brokenTuple M s ≡ some t) × (after ≡ padded t) × (judgementOf j ≡ judge M s t)
+
+-- The same of all signatures: none is broken, or the lowest broken one is named.
+abbrev pub Lowest : Model → List ℕ → Signatures → Type 0
+Lowest M after AllCovered = brokenSignature M ≡ none
+Lowest M after (BrokenAt s j) = (brokenSignature M ≡ some s) × Whole M s after (Broken j)

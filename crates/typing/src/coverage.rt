@@ -12,7 +12,6 @@ use layout::field::sig_arg;
 use layout::field::sig_function;
 use layout::field::specialiser;
 ghost use mathlib.Core.Path.{_≡_};
-ghost use mathlib.Core.Bool.{true};
 ghost use mathlib.Core.List.{[], _∷_, _++_};
 ghost use Prim.Native.Nat.{ℕ, _+_, _-_, _<_, _≤_};
 ghost use lib.ListN.{length, take, drop, getD};
@@ -25,7 +24,7 @@ ghost use Rattle.layout.specs.Opened.{Opened};
 ghost use Rattle.dispatch.specs.Matrix.{Filled};
 ghost use Rattle.dispatch.specs.Listed.{Listed};
 ghost use Rattle.typing.specs.Judged.{judgementOf};
-ghost use Rattle.typing.specs.Searched.{tried, above, Filling, Searched, Whole};
+ghost use Rattle.typing.specs.Searched.{tried, above, Filling, Outcome, Whole, Lowest};
 
 // The rule holds for every tuple, or fails for one.
 pub enum Coverage {
@@ -154,7 +153,7 @@ fn search(
     requires { ⌜ Filling (modelOf (now bytes)) s f n (n - left) (now chosen) (now list) count ⌝ }
     ensures { λ r. ⌜ length (now (chosen .exit)) ≡ length (now (chosen .entry)) ⌝ }
     ensures { λ r. ⌜ take (n - left) (now (chosen .exit)) ≡ take (n - left) (now (chosen .entry)) ⌝ }
-    ensures { λ r. ⌜ Searched (modelOf (now (bytes .entry))) s n (take (n - left) (now (chosen .entry))) (drop (n - left) ((modelOf (now (bytes .entry))) .sigArgs s)) (now (chosen .exit)) r ⌝ }
+    ensures { λ r. ⌜ Outcome (modelOf (now (bytes .entry))) s n (take (n - left) (now (chosen .entry))) (drop (n - left) ((modelOf (now (bytes .entry))) .sigArgs s)) (now (chosen .exit)) r ⌝ }
 {
     if left == 0 {
         let j = judge_filled(bytes, b, scratch, s, f, n, chosen, list, count);
@@ -214,7 +213,7 @@ fn extend(
     requires { ⌜ Filling (modelOf (now bytes)) s f n place (now chosen) (now list) count ⌝ }
     ensures { λ r. ⌜ length (now (chosen .exit)) ≡ length (now (chosen .entry)) ⌝ }
     ensures { λ r. ⌜ take place (now (chosen .exit)) ≡ take place (now (chosen .entry)) ⌝ }
-    ensures { λ r. ⌜ Searched (modelOf (now (bytes .entry))) s n (take place (now (chosen .entry)) ++ (k ∷ [])) (drop (place + 1) ((modelOf (now (bytes .entry))) .sigArgs s)) (now (chosen .exit)) r ⌝ }
+    ensures { λ r. ⌜ Outcome (modelOf (now (bytes .entry))) s n (take place (now (chosen .entry)) ++ (k ∷ [])) (drop (place + 1) ((modelOf (now (bytes .entry))) .sigArgs s)) (now (chosen .exit)) r ⌝ }
 {
     chosen[place] = k;
     let mut next = blank();
@@ -263,4 +262,31 @@ pub fn covered(bytes: &[u8], b: Bundle, scratch: &[u8], s: usize, chosen: &mut [
     let r = search(bytes, b, scratch, s, f, n, n, chosen, &list, count);
     pad(chosen, n);
     r
+}
+
+// Every signature is covered; or the lowest that is not, with the judgement of its tuple.
+pub enum Signatures {
+    AllCovered,
+    BrokenAt(usize, Judgement),
+}
+
+// Searches the signatures in number order, and leaves the broken tuple of the first broken one in the places.
+pub fn broken_signature(bytes: &[u8], b: Bundle, scratch: &[u8], chosen: &mut [usize]) -> Signatures
+    requires { ⌜ Opened (now bytes) b ⌝ }
+    requires { ⌜ Filled (modelOf (now bytes)) (now scratch) ⌝ }
+    requires { ⌜ length (now chosen) ≡ places ⌝ }
+    ensures { λ r. ⌜ length (now (chosen .exit)) ≡ places ⌝ }
+    ensures { λ r. ⌜ Lowest (modelOf (now (bytes .entry))) (now (chosen .exit)) r ⌝ }
+{
+    let signatures = b.signatures;
+    let mut s = 0;
+    while s < signatures {
+        let signature = s;
+        s += 1;
+        match covered(bytes, b, scratch, signature, chosen) {
+            Coverage::Covered => continue,
+            Coverage::Broken(j) => return Signatures::BrokenAt(signature, j),
+        }
+    }
+    Signatures::AllCovered
 }

@@ -1,6 +1,5 @@
 -- `typing::judge::judge_method` meets its contract: the declared classes are asked first, then the result class.
 -- Assumes nothing.
-use borrow.Author.Needs.{needs}
 use mathlib.Core.Path.{sym, _∙_}
 use borrow.Author.Tests.{not-true, not-false}
 use Rattle.dispatch.proofs.Asked.{asked, answered}
