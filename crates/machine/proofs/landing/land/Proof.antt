@@ -92,7 +92,7 @@ returns-2 c =
     )
 
 lowest-requires : tie.Need-lowest-requires Inv-loop μ-loop
-lowest-requires c κs = let n = numbers-of (c .before .before .before .before .before .before .before .before .before .before .loop .inv .0) in (n .few, n .values-long)
+lowest-requires c κs = let n = numbers-of (c .before .before .before .before .before .before .before .before .before .before .loop .inv .0) in (omega arith, n .values-long)
 
 same-length-5 : tie.Need-same-length-5 Inv-loop μ-loop
 same-length-5 c = c .before .before .before .before .before .before .before .before .before .before .before .before .loop .inv .2
