@@ -1,2 +1,3 @@
 pub mod Called
 pub mod Sent
+pub mod Checking

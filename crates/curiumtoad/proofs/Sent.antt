@@ -13,7 +13,7 @@ use Rattle.rules.specs.Bounded.{every}
 use Rattle.rules.specs.Layout.{Answer, gives, refuses, require, tupleRule, places, padded}
 use Rattle.rules.specs.Model.{Model, modelOf, present}
 use Rattle.rules.specs.Lookup.{Found, lookup}
-use Rattle.rules.specs.Calls.{rowBytes, sendRule, used, foundAnswer, lookupIn, licensed, sendTypeIn, witnessRule, witnessIn, witnessAnswer}
+use Rattle.rules.specs.Calls.{rowBytes, sendRule, used, foundAnswer, lookupIn, licensed, sendTypeIn, witnessRule, witnessIn, witnessAnswer, runIn}
 use Rattle.rules.specs.Coverage.{concreteClass, covers, Judgement, holds, fails, judge, coverageRefusal}
 use Rattle.rules.proofs.Places.{used-places-read}
 use Rattle.rules.proofs.Lists.{and-left, and-right, and-both, every-places, every-broken}
@@ -25,6 +25,7 @@ use Rattle.rules.specs.Subclass.{subclass}
 use Rattle.dispatch.proofs.Asked.{argument-below, under-judged}
 use Rattle.layout.proofs.Judged.{Judged, tuple-judged}
 use Rattle.rules.specs.Types.{Static, sendType}
+use Rattle.rules.specs.Machine.{Outcome, run}
 use Rattle.typing.specs.Rows.{classTypes}
 use Rattle.typing.specs.Sends.{inhabited}
 use Rattle.curiumtoad.specs.Said.{blank, coverageValues}
@@ -130,7 +131,7 @@ module _ {b : List ℕ} {t : Bundle} (o : Opened b t) (s : ℕ) (n : ℕ) (args 
       }
 
 -- a judgement's refusal by the rules and by its values
-coverage-same : (M : Model) (s : ℕ) (args : List ℕ) {values : List ℕ} (j : Judgement) → M .sigFunction s ∷ padded args ≡ values
+pub coverage-same : (M : Model) (s : ℕ) (args : List ℕ) {values : List ℕ} (j : Judgement) → M .sigFunction s ∷ padded args ≡ values
     → coverageValues s values j ≡ coverageRefusal M s args j
 unfolding coverageRefusal
 coverage-same M s args (holds m) v = refl
@@ -206,3 +207,23 @@ witness-values {b} o s args {f} e l q =
     let tuple = used-padded (modelOf b .classes) (modelOf b .arity (modelOf b .sigFunction s)) args l
     (and-right (ltb (modelOf b .sigFunction s) (modelOf b .functions)) (tupleRule (modelOf b .classes) (modelOf b .arity (modelOf b .sigFunction s)) args) sent) in
     rw (tuple, q)
+
+-- The answers of a run.
+module _ {b : List ℕ} {t : Bundle} (o : Opened b t) (f : ℕ) (args : List ℕ) (count : ℕ) where
+  pub run-unsent : sendRule (modelOf b) f args ≡ false → refuses 18 [] ≡ runIn f args count (modelOf b)
+  unfolding runIn require
+  run-unsent e = rw e
+
+  pub run-abstract : {n : ℕ} → sendRule (modelOf b) f args ≡ true → n ≡ modelOf b .arity f → every (concreteClass (modelOf b)) (take n args) ≡ false
+      → refuses 18 [] ≡ runIn f args count (modelOf b)
+  unfolding runIn require used
+  run-abstract e q p = rw (e, ← q, p)
+
+  pub run-ended : {n : ℕ} {r : Outcome} → sendRule (modelOf b) f args ≡ true → n ≡ modelOf b .arity f → every (concreteClass (modelOf b)) (take n args) ≡ true
+      → r ≡ (run (modelOf b) f (take (modelOf b .arity f) args) count) .outcome → gives r ≡ runIn f args count (modelOf b)
+  unfolding runIn require used
+  run-ended e q p r = rw (e, ← q, p, r, ← q)
+
+  pub send-tuple : sendRule (modelOf b) f args ≡ true → tupleRule (modelOf b .classes) (modelOf b .arity f) args ≡ true
+  unfolding sendRule
+  send-tuple e = search (and-left, and-right)

@@ -2,3 +2,4 @@ pub mod Refusal
 pub mod Prepared
 pub mod Send
 pub mod Said
+pub mod Checked

@@ -5,6 +5,8 @@ use mathlib.Core.Bool.{Bool, true, false}
 use mathlib.Core.List.{List, [], _∷_, _++_}
 use Rattle.rules.specs.Layout.{Answer, gives, refuses}
 use Rattle.rules.specs.Coverage.{Judgement, holds, fails}
+use Rattle.rules.specs.Machine.{Outcome}
+use Rattle.machine.specs.Endings.{outcomeOf}
 use Rattle.curiumtoad.specs.declared.ancestry.AncestryAnswer as ancestry-type
 use Rattle.curiumtoad.specs.declared.ancestry.AncestryAnswer.the-variants as ancestry
 use Rattle.curiumtoad.specs.declared.lookup.LookupAnswer as lookup-type
@@ -17,6 +19,13 @@ use Rattle.curiumtoad.specs.declared.witness.Judged as judged-type
 use Rattle.curiumtoad.specs.declared.witness.Judged.the-variants as judged
 use Rattle.curiumtoad.specs.declared.witness.WitnessAnswer as witness-type
 use Rattle.curiumtoad.specs.declared.witness.WitnessAnswer.the-variants as witness
+use Rattle.curiumtoad.specs.declared.run.RunAnswer as run-type
+use Rattle.curiumtoad.specs.declared.run.RunAnswer.the-variants as run
+use Rattle.curiumtoad.specs.declared.check.Verdict as verdict-type
+use Rattle.curiumtoad.specs.declared.check.Verdict.the-variants as verdict
+use Rattle.curiumtoad.specs.declared.check.Finding.the-variants as found
+use Rattle.layout.specs.Opening.{saidOf}
+use Rattle.curiumtoad.specs.Refusal.{numberOf, valuesOf}
 use Rattle.curiumtoad.specs.Prepared.{refusalSaid}
 use Rattle.curiumtoad.specs.Send.{sendValues}
 
@@ -61,3 +70,14 @@ abbrev pub witnessSaid : witness-type.WitnessAnswer → Answer (Unit {0})
 witnessSaid witness.Holds = gives tt
 witnessSaid (witness.Fails found) = coverageSaid found
 witnessSaid (witness.Refused r) = refusalSaid r
+
+abbrev pub runSaid : run-type.RunAnswer → Answer Outcome
+runSaid (run.Ended o) = gives (outcomeOf o)
+runSaid (run.Refused r) = refusalSaid r
+
+abbrev pub verdictSaid : verdict-type.Verdict → Answer (Unit {0})
+verdictSaid verdict.Accepted = gives tt
+verdictSaid (verdict.Refused (found.Layout f)) = refuses (numberOf (saidOf f)) (valuesOf (saidOf f))
+verdictSaid (verdict.Refused found.Scratch) = refuses 19 []
+verdictSaid (verdict.Refused (found.Coverage c)) = coverageSaid c
+verdictSaid (verdict.Refused (found.Body x)) = refuses (x .number) (x .method ∷ x .instruction ∷ [])
