@@ -3,3 +3,4 @@ pub mod Prepared
 pub mod Send
 pub mod Said
 pub mod Checked
+pub mod Alike

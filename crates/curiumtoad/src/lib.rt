@@ -2,6 +2,7 @@
 // the work to the layers below.
 pub mod ancestry;
 pub mod check;
+pub mod checked_run;
 pub mod lookup;
 pub mod opening;
 pub mod prepare;

@@ -1,0 +1,97 @@
+-- Demand 3 about the answers of the two calls, from the theorem over the definitions and the contracts of the two.
+-- Assumes nothing.
+use Prim.Native.Nat.{ℕ, _≤_}
+use mathlib.Core.Path.{_≡_, refl, sym, ap, _∙_}
+use mathlib.Core.Bool.{Bool, true, false, _&&_, false≢true, cond}
+use mathlib.Core.List.{List, [], _∷_, _++_, map}
+use lib.Dec.{leb}
+use lib.ListN.{length, drop}
+use Rattle.rules.specs.Bounded.{every, upto}
+use Rattle.rules.specs.Layout.{Answer, gives, refuses, opening, require}
+use Rattle.rules.specs.Model.{Model, modelOf}
+use Rattle.rules.specs.Coverage.{concreteClass, verdictNaming, firstBroken, brokenSignature, verdict}
+use Rattle.rules.specs.Machine.{Outcome, run}
+use Rattle.rules.specs.Calls.{scratchBytes, onOpening, whenOpen, withScratch, sendRule, used, runIn, runCall, checkCallNaming, overwrite, matrixByte, scratchOn, scratchAfter}
+use Rattle.rules.specs.Sound.{Covering, SoundRun}
+use Rattle.rules.proofs.Coverage.{Acceptable, accepted-acceptable, acceptable-accepted}
+use Rattle.rules.proofs.Sound.{demand-3}
+use Rattle.rules.proofs.Overwrite.{overwrite-length}
+use Rattle.typing.proofs.Writing.{overwrite-twice}
+use Rattle.rules.proofs.Lists.{test, and-both}
+use borrow.Author.Tests.{leb-true}
+use Rattle.curiumtoad.specs.declared.check.Verdict.{Verdict}
+use Rattle.curiumtoad.specs.declared.run.RunAnswer.{RunAnswer}
+use Rattle.curiumtoad.specs.Said.{verdictSaid, runSaid}
+use Rattle.curiumtoad.specs.Checked.{Checks}
+use Rattle.curiumtoad.specs.Alike.{CoveredOpening, SoundAnswer, JudgedAlike}
+
+-- a call over scratch that gives something had an opened bundle and scratch enough
+record Given {A : Type 0} (b : List ℕ) (scratch : ℕ) (call : Model → Answer A) (x : A) : Type 0 where
+  counts : List ℕ
+  opens : opening b ≡ gives counts
+  enough : leb scratchBytes scratch ≡ true
+  gave : call (modelOf b) ≡ gives x
+
+given : {A : Type 0} (b : List ℕ) (scratch : ℕ) (call : Model → Answer A) (x : A) → withScratch b scratch call ≡ gives x → Given b scratch call x
+unfolding withScratch whenOpen onOpening require
+given {A} b scratch call x e = go (opening b) refl e
+  where
+    tested : (counts : List ℕ) → opening b ≡ gives counts → (t : Bool) → leb scratchBytes scratch ≡ t → require t 19 (call (modelOf b)) ≡ gives x → Given b scratch call x
+    tested counts o true q r = record { counts = counts; opens = o; enough = q; gave = r }
+    tested counts o false q r = absurd (false≢true (cc))
+
+    go : (r : Answer (List ℕ)) → opening b ≡ r → onOpening r (modelOf b) (λ M. require (leb scratchBytes scratch) 19 (call M)) ≡ gives x → Given b scratch call x
+    go (gives counts) o r = tested counts o (leb scratchBytes scratch) refl r
+    go (refuses number values) o r = absurd (false≢true (cc))
+
+run-answer : (b : List ℕ) (scratch f : ℕ) (tuple : List ℕ) (count : ℕ) {counts : List ℕ} → opening b ≡ gives counts → leb scratchBytes scratch ≡ true
+    → CoveredOpening (modelOf b) f tuple → runCall b scratch f tuple count ≡ gives ((run (modelOf b) f (used (modelOf b) f tuple) count) .outcome)
+unfolding runCall runIn withScratch whenOpen onOpening require
+run-answer b scratch f tuple count o l c =
+    rw (o, l, c .kept, c .concrete)
+
+first-accepted : (M : Model) → Acceptable M → verdict M ≡ gives tt
+unfolding verdict
+first-accepted M a = acceptable-accepted M (firstBroken M (brokenSignature M)) a
+
+pub judged-alike : (b : List ℕ) (scratch f : ℕ) (tuple : List ℕ) (count : ℕ) (v : Verdict) (r : RunAnswer)
+    → Checks b scratch v → runSaid r ≡ runCall b scratch f tuple count → JudgedAlike b f tuple count v r
+unfolding checkCallNaming
+judged-alike b scratch f tuple count v r c q e w =
+    let g = given b scratch (λ M. verdictNaming M (c .args)) tt (sym (c .verdict) ∙ e) in
+    let acceptable = accepted-acceptable (modelOf b) (c .args) (c .names) (g .gave) in
+    record {
+      whole =
+          demand-3 b (g .counts) (g .opens) (first-accepted (modelOf b) acceptable) f (used (modelOf b) f tuple) (w .signature) (w .covering) (w .concrete) count;
+      answer = q ∙ run-answer b scratch f tuple count (g .opens) (g .enough) w;
+    }
+
+-- The second call finds the scratch of the first: as long, and filled the same.
+pub scratch-length : (b scratch : List ℕ) → length (scratchAfter b scratch) ≡ length scratch
+unfolding scratchAfter scratchOn
+scratch-length b scratch = go (opening b)
+  where
+    tested : (t : Bool) → leb scratchBytes (length scratch) ≡ t → length (cond t (overwrite scratchBytes (matrixByte (modelOf b)) scratch) scratch) ≡ length scratch
+    tested true e = overwrite-length scratchBytes (matrixByte (modelOf b)) scratch (leb-true scratchBytes (length scratch) e)
+    tested false e = refl
+
+    go : (r : Answer (List ℕ)) → length (scratchOn r (modelOf b) scratch) ≡ length scratch
+    go (gives counts) = tested (leb scratchBytes (length scratch)) refl
+    go (refuses number values) = refl
+
+pub scratch-twice : (b scratch : List ℕ) → scratchAfter b (scratchAfter b scratch) ≡ scratchAfter b scratch
+unfolding scratchAfter scratchOn
+scratch-twice b scratch = go (opening b)
+  where
+    tested : (t : Bool) → leb scratchBytes (length scratch) ≡ t
+        → scratchOn (gives []) (modelOf b) (cond t (overwrite scratchBytes (matrixByte (modelOf b)) scratch) scratch)
+        ≡ cond t (overwrite scratchBytes (matrixByte (modelOf b)) scratch) scratch
+    tested true e =
+        let long = leb-true scratchBytes (length scratch) e in
+        rw (overwrite-length scratchBytes (matrixByte (modelOf b)) scratch long, e)
+        (overwrite-twice scratchBytes (matrixByte (modelOf b)) (matrixByte (modelOf b)) scratch)
+    tested false e = rw e
+
+    go : (r : Answer (List ℕ)) → scratchOn r (modelOf b) (scratchOn r (modelOf b) scratch) ≡ scratchOn r (modelOf b) scratch
+    go (gives counts) = tested (leb scratchBytes (length scratch)) refl
+    go (refuses number values) = refl
