@@ -4,8 +4,8 @@
 usage: tools/vectors.py FOLDER          write them, from the vectors of FOLDER (JSON lines), the cases of document 01 and the sample bundles
        tools/vectors.py FOLDER --check  write nothing; say which differ, and exit with 1 if any does
 
-The opening rules of document 01 stand here a second time. They give the answers for bundles that no vector has, and every vector is held to them, so
-that an answer on which the two differ is never passed on.
+The rules of document 01 for opening, ancestry and lookup stand here a second time. They give the answers for bundles that no vector has, and every
+vector is held to them, so that an answer on which the two differ is never passed on.
 """
 import itertools
 import json
@@ -19,7 +19,10 @@ import make  # noqa: E402
 
 LONGEST = 65535
 CLASSES, FUNCTIONS, SIGNATURES, METHODS, PLACES = 128, 64, 256, 512, 3
-ABSENT = 18
+ABSENT, SHORT = 18, 19
+MATRIX = 16384
+# The scratch of a call is longer than the matrix, so that a byte written past it shows.
+SCRATCH = 17000
 
 
 # The rules
@@ -126,6 +129,55 @@ def view(bundle, method):
         return ABSENT, 0, 0
     record = bundle[spans(bundle)[4][0] + 12 * method:][:12]
     return 0, spans(bundle)[5][0] + word(record, 8), word(record, 10)
+
+
+def above(bundle):
+    """for each class the set of those it is under"""
+    (class_at, length), (parent_at, _) = spans(bundle)[:2]
+    sets = []
+    for k, record in enumerate(records(bundle[class_at:][:length], 6)):
+        sets.append({k}.union(*(sets[p] for p in bundle[parent_at + word(record, 2):][:word(record, 4)])))
+    return sets
+
+
+def ancestry(bundle, a, b):
+    """number and values, 1 for yes and 0 for no, of an opened bundle"""
+    sets = above(bundle)
+    return (0, [int(b in sets[a])]) if max(a, b) < len(sets) else (ABSENT, [])
+
+
+def lookup(bundle, function, *places):
+    """number and values, of an opened bundle: the method found; or the function and the places, with the rivals for 11"""
+    sets, (at, functions), (method_at, length) = above(bundle), spans(bundle)[2], spans(bundle)[4]
+    if function >= functions:
+        return ABSENT, []
+    arity = bundle[at + function]
+    if any(c >= len(sets) for c in places[:arity]) or any(places[arity:]):
+        return ABSENT, []
+
+    def under(classes, others):
+        return all(other in sets[c] for c, other in zip(classes[:arity], others))
+
+    applicable = {
+        m: record[1:4] for m, record in enumerate(records(bundle[method_at:][:length], 12)) if record[0] == function and under(places, record[1:4])}
+    if not applicable:
+        return 10, [function, *places]
+    leading = [m for m, own in applicable.items() if all(under(own, others) for others in applicable.values())]
+    if leading:
+        return 0, leading
+    unbeaten = [m for m, own in applicable.items() if not any(under(others, own) for o, others in applicable.items() if o != m)]
+    return 11, [function, *places, *unbeaten[:2]]
+
+
+ASKED = {"ancestry": ancestry, "lookup": lookup}
+
+
+def asked(bundle, scratch, kind, *numbers):
+    """the answer of a call that is lent so much scratch"""
+    number, values = opening(bundle)
+    if number:
+        return number, values
+    return ASKED[kind](bundle, *numbers) if scratch >= MATRIX else (SHORT, [])
 
 
 # Bundles that no vector has
@@ -241,22 +293,105 @@ def view_cases(folder):
             yield bundle, [(0, *refused(number, values))]
 
 
+def answer_values(answer):
+    """the values of an answer of ancestry or lookup, as the rules give them"""
+    if answer["number"] == ABSENT:
+        return []
+    if answer["number"]:
+        return [answer["function"], *answer["tuple"], *answer["methods"]]
+    return [answer["method"] if "method" in answer else int(answer["answer"] == "yes")]
+
+
+# P 1 to P 5 of document 01: (bundle, argument classes of function 0, number, values)
+P_CASES = [
+    ("chart-3", [1, 3], 0, [2]),
+    ("chart-3", [1, 4], 0, [0]),
+    ("chart-3", [2, 3], 0, [1]),
+    ("chart-3", [2, 4], 11, [0, 2, 4, 0, 0, 1]),
+    ("chart-4", [2, 4], 0, [3]),
+]
+
+
+def every_question(bundle):
+    """(kind, numbers) for each pair of classes and each function with each tuple, and with numbers that are absent or out of place"""
+    classes, functions = opening(bundle)[1][:2]
+    at = spans(bundle)[2][0]
+    for a, b in itertools.product([*range(classes), CLASSES, LONGEST], repeat=2):
+        yield "ancestry", [a, b]
+    for function in range(functions):
+        arity = bundle[at + function]
+        unused = [0] * (PLACES - arity)
+        for places in itertools.product(range(classes), repeat=arity):
+            yield "lookup", [function, *places, *unused]
+        # One place after the other holds a class that is not there, or 1 where none may be.
+        for place in range(PLACES):
+            for number in [classes, CLASSES, LONGEST] if place < arity else [1, LONGEST]:
+                yield "lookup", [function, *(number if i == place else 0 for i in range(PLACES))]
+    for function in [functions, FUNCTIONS, LONGEST]:
+        yield "lookup", [function, 0, 0, 0]
+
+
+def lookup_cases(folder):
+    """(bundle, [(scratch, kind, numbers, number, values)])"""
+    for entry, bundle in vectors(folder, "lookup.jsonl"):
+        calls = []
+        for call in entry["calls"]:
+            kind = next(kind for kind in ASKED if kind in call)
+            calls.append((SCRATCH, kind, call[kind], call["answer"]["number"], answer_values(call["answer"])))
+        yield bundle, calls
+    for name, places, number, values in P_CASES:
+        yield make.SAMPLES[name], [(SCRATCH, "lookup", [0, *places, 0], number, values)]
+
+    def answered(bundle, *parts):
+        """parts: (scratch, questions)"""
+        return bundle, [
+            (scratch, kind, numbers, *asked(bundle, scratch, kind, *numbers)) for scratch, questions in parts for kind, numbers in questions]
+
+    # The last two name a class and a function that are absent: 19 comes before 18.
+    few = [("ancestry", [0, 0]), ("lookup", [0, 0, 0, 0]), ("ancestry", [LONGEST, 0]), ("lookup", [LONGEST, 0, 0, 0])]
+    for bundle in make.SAMPLES.values():
+        yield answered(bundle, (SCRATCH, every_question(bundle)), (0, few), (MATRIX - 1, few), (MATRIX, few))
+    long, too_long = longest()
+    many = [("lookup", [f, c, c, 0]) for f in [1, FUNCTIONS - 2] for c in range(0, CLASSES, 9)]
+    for bundle in [long, make.bundle(*at_limits(chain(CLASSES)))]:
+        yield answered(bundle, (SCRATCH, few + many))
+    # Every call opens the bundle first, and one that does not open leaves the scratch as it was, however short it is.
+    for bundle in [too_long, *(bundle for bundle, number, _ in opening_vectors(folder) if number)]:
+        yield answered(bundle, (SCRATCH, few[:2]), (MATRIX - 1, few[:2]))
+
+
 def little_endian(width, *numbers):
     return b"".join(n.to_bytes(width, "little") for n in numbers)
 
 
-def held(bundle, expected, second):
+def held(bundle, answer, second):
     """stops where an expected answer is not the one that the rules give"""
-    if expected != second:
-        sys.exit(f"answers differ: {expected} expected, {second} by the rules, for the bundle {bundle.hex()[:200]}")
+    if answer != second:
+        sys.exit(f"answers differ: {answer} expected, {second} by the rules, for the bundle {bundle.hex()[:200]}")
+
+
+def expected(number, values):
+    """an answer as a case has it: the number, and six values filled up with zeros"""
+    return bytes([number]) + little_endian(2, *values, *[0] * (6 - len(values)))
 
 
 def opening_stream(folder):
     stream, count = b"", 0
     for bundle, number, values in opening_cases(folder):
         held(bundle, (number, values), opening(bundle))
-        stream += little_endian(3, len(bundle)) + bundle + bytes([number]) + little_endian(2, *values, *[0] * (4 - len(values)))
+        stream += little_endian(3, len(bundle)) + bundle + expected(number, values)
         count += 1
+    return stream, count
+
+
+def lookup_stream(folder):
+    stream, count = b"", 0
+    for bundle, calls in lookup_cases(folder):
+        stream += little_endian(3, len(bundle)) + bundle + little_endian(2, len(calls))
+        for scratch, kind, numbers, number, values in calls:
+            held(bundle, (number, values), asked(bundle, scratch, kind, *numbers))
+            stream += bytes([kind == "lookup"]) + little_endian(2, scratch, *numbers, *[0] * (4 - len(numbers))) + expected(number, values)
+            count += 1
     return stream, count
 
 
@@ -278,7 +413,7 @@ def main():
         sys.exit(__doc__)
     folder = pathlib.Path(folders[0])
     wanted = {}
-    for name, (stream, count) in [("opening", opening_stream(folder)), ("view", view_stream(folder))]:
+    for name, (stream, count) in [("opening", opening_stream(folder)), ("view", view_stream(folder)), ("lookup", lookup_stream(folder))]:
         crate = ROOT / "crates" / f"{name}_cases"
         wanted[crate / "stdin"] = stream
         wanted[crate / "stdout"] = f"{name} cases {count} differing 0\n".encode()

@@ -1,4 +1,4 @@
-// What the test programs share: reading cases from standard input, counting them, and printing what differs.
+// What the test programs share: reading cases from standard input, answers as numbers, counting cases, and printing what differs.
 //
 // A case begins with its bundle: three bytes with the bundle's length, then the bundle. Every number of a case has its lowest byte first. A case that
 // the input does not hold whole is not counted, so that the last line shows that cases are missing.
@@ -59,6 +59,69 @@ pub fn read_bundle(space: &mut [u8]) -> Taken
     Taken { is_whole, len }
 }
 
+// What a call answers: document 01's number, 0 where nothing is refused, and the values that come with it, filled up with zeros.
+pub struct Answer {
+    pub number: usize,
+    pub values: [usize; 6],
+}
+
+impl Answer {
+    // A number that comes alone.
+    pub fn alone(number: usize) -> Answer {
+        Answer {
+            number,
+            values: [0; 6],
+        }
+    }
+
+    // An answer with one value.
+    pub fn with_value(number: usize, value: usize) -> Answer {
+        Answer {
+            number,
+            values: [value, 0, 0, 0, 0, 0],
+        }
+    }
+
+    // The expected answer of a case: its number is one byte, and each value two.
+    pub fn of_bytes(expected: &[u8; 13]) -> Answer {
+        let bytes = &expected[..];
+        Answer {
+            number: number(&bytes[0..1]),
+            values: [
+                number(&bytes[1..3]),
+                number(&bytes[3..5]),
+                number(&bytes[5..7]),
+                number(&bytes[7..9]),
+                number(&bytes[9..11]),
+                number(&bytes[11..13]),
+            ],
+        }
+    }
+
+    pub fn is_same(self, other: Answer) -> bool {
+        let mine = self.values;
+        let others = other.values;
+        self.number == other.number
+            && mine[0] == others[0]
+            && mine[1] == others[1]
+            && mine[2] == others[2]
+            && mine[3] == others[3]
+            && mine[4] == others[4]
+            && mine[5] == others[5]
+    }
+
+    pub fn print(self) {
+        let values = self.values;
+        print_value(self.number);
+        print_value(values[0]);
+        print_value(values[1]);
+        print_value(values[2]);
+        print_value(values[3]);
+        print_value(values[4]);
+        print_value(values[5]);
+    }
+}
+
 // How many cases were run, and how many of them gave another answer than the expected one.
 pub struct Tally {
     pub cases: u64,
@@ -104,6 +167,11 @@ impl Tally {
         io::print_decimal(STDOUT_FILENO, self.cases);
         io::write_all(STDOUT_FILENO, b" got");
     }
+}
+
+// Words of such a line.
+pub fn print_note(note: &[u8]) {
+    io::write_all(STDOUT_FILENO, note);
 }
 
 // A number of such a line.

@@ -1,64 +1,33 @@
 // Opens the bundle of each case on standard input and compares the answer with the expected one.
 //
-// After its bundle a case has the expected number, one byte, and four values of two bytes each: the counts of classes, functions, signatures and
-// methods for number 0, the record first for numbers 4 to 9, else zeros.
+// After its bundle a case has the expected answer. Its values are the counts of classes, functions, signatures and methods for number 0, and the
+// record for numbers 4 to 9.
+use cases::Answer;
 use cases::Tally;
-use cases::number;
 use curiumtoad::opening::open;
-use curiumtoad::opening::record;
 use layout::finding::Opening;
 
-// What opening says: document 01's number, 0 where the bundle opens, and the values that come with it.
-struct Answer {
-    number: usize,
-    values: [usize; 4],
-}
-
-impl Answer {
-    fn of_bundle(bundle: &[u8]) -> Answer {
-        match open(bundle) {
-            Opening::Opened(b) => Answer {
-                number: 0,
-                values: [b.classes, b.functions, b.signatures, b.methods],
-            },
-            Opening::Refused(found) => Answer {
-                number: curiumtoad::opening::number(found) as usize,
-                values: [record(found), 0, 0, 0],
-            },
-        }
-    }
-
-    fn is_expected(self, expected: &[u8; 9]) -> bool {
-        let bytes = &expected[..];
-        let values = self.values;
-        self.number == number(&bytes[0..1])
-            && values[0] == number(&bytes[1..3])
-            && values[1] == number(&bytes[3..5])
-            && values[2] == number(&bytes[5..7])
-            && values[3] == number(&bytes[7..9])
-    }
-
-    fn print(self) {
-        let values = self.values;
-        cases::print_value(self.number);
-        cases::print_value(values[0]);
-        cases::print_value(values[1]);
-        cases::print_value(values[2]);
-        cases::print_value(values[3]);
-        cases::print_line_end();
+fn answer(bundle: &[u8]) -> Answer {
+    match open(bundle) {
+        Opening::Opened(b) => Answer {
+            number: 0,
+            values: [b.classes, b.functions, b.signatures, b.methods, 0, 0],
+        },
+        Opening::Refused(found) => answers::of_finding(found),
     }
 }
 
 fn run_case(bundle: &[u8], tally: Tally) -> Tally {
-    let mut expected = [0u8; 9];
+    let mut expected = [0u8; 13];
     if !cases::read_whole(&mut expected) {
         return tally;
     }
-    let got = Answer::of_bundle(bundle);
-    let is_same = got.is_expected(&expected);
+    let got = answer(bundle);
+    let is_same = got.is_same(Answer::of_bytes(&expected));
     if !is_same {
         tally.print_differs();
         got.print();
+        cases::print_line_end();
     }
     tally.counted(is_same)
 }
