@@ -26,13 +26,13 @@ use Rattle.curiumtoad.specs.Checked.{Checks}
 use Rattle.curiumtoad.specs.Alike.{CoveredOpening, SoundAnswer, JudgedAlike}
 
 -- a call over scratch that gives something had an opened bundle and scratch enough
-record Given {A : Type 0} (b : List ℕ) (scratch : ℕ) (call : Model → Answer A) (x : A) : Type 0 where
-  counts : List ℕ
-  opens : opening b ≡ gives counts
-  enough : leb scratchBytes scratch ≡ true
-  gave : call (modelOf b) ≡ gives x
+pub record Given {A : Type 0} (b : List ℕ) (scratch : ℕ) (call : Model → Answer A) (x : A) : Type 0 where
+  pub counts : List ℕ
+  pub opens : opening b ≡ gives counts
+  pub enough : leb scratchBytes scratch ≡ true
+  pub gave : call (modelOf b) ≡ gives x
 
-given : {A : Type 0} (b : List ℕ) (scratch : ℕ) (call : Model → Answer A) (x : A) → withScratch b scratch call ≡ gives x → Given b scratch call x
+pub given : {A : Type 0} (b : List ℕ) (scratch : ℕ) (call : Model → Answer A) (x : A) → withScratch b scratch call ≡ gives x → Given b scratch call x
 unfolding withScratch whenOpen onOpening require
 given {A} b scratch call x e = go (opening b) refl e
   where

@@ -4,3 +4,4 @@ pub mod Send
 pub mod Said
 pub mod Checked
 pub mod Alike
+pub mod Accepted

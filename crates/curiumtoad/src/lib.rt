@@ -8,6 +8,7 @@ pub mod opening;
 pub mod prepare;
 pub mod refusal;
 pub mod run;
+pub mod run_accepted;
 pub mod send;
 pub mod send_type;
 pub mod view;

@@ -65,7 +65,7 @@ pub fn named(signature: usize, send: Send, judgement: Judgement) -> Judged
 }
 
 // Whether the signature covers its first n arguments, which are classes of the bundle.
-fn covering(
+pub fn covering(
     bundle: &[u8],
     b: Bundle,
     scratch: &[u8],

@@ -1,0 +1,158 @@
+-- A run of an accepted bundle: from an accepted check and a run that was answered to a covered opening send and a sound end.
+-- Assumes nothing.
+use Prim.Native.Nat.{ℕ, _<_}
+use mathlib.Core.Path.{_≡_, refl, sym, ap, _∙_}
+use mathlib.Core.Bool.{Bool, true, false, _&&_, false≢true}
+use mathlib.Core.List.{List, [], _∷_}
+use lib.Dec.{leb, eqb}
+use lib.ListN.{length}
+use borrow.Author.Tests.{leb-true, eqb-true, eq-eqb}
+use Rattle.rules.specs.Bounded.{upto, any, every}
+use Rattle.rules.specs.Layout.{Answer, gives, refuses, opening, require}
+use Rattle.rules.specs.Model.{Model, modelOf}
+use Rattle.rules.specs.Coverage.{covers, concreteClass, verdictNaming}
+use Rattle.rules.specs.Machine as rules
+use Rattle.rules.specs.Calls.{scratchBytes, sendRule, used, runIn, runCall, checkCallNaming, scratchAfter}
+use Rattle.rules.specs.Sound.{Covering, SoundEnding}
+use Rattle.rules.proofs.Lists.{and-left, and-right, and-both, any-mem, any-from, upto-below, below-upto}
+use Rattle.layout.specs.declared.finding.Opening.{Opening}
+use Rattle.layout.specs.Opening.{Opens, said, saidOf}
+use Rattle.layout.specs.declared.finding.Opening.the-variants as opened-answer
+use Rattle.layout.specs.declared.finding.LayoutFinding.{LayoutFinding}
+use Rattle.layout.specs.declared.finding.LayoutFinding.the-variants as finding
+use Rattle.dispatch.specs.Matrix.{Filled}
+use Rattle.dispatch.proofs.Entry.{filled-whole}
+use Rattle.machine.specs.declared.ending.Ending.{Ending}
+use Rattle.machine.specs.declared.ending.Ending.the-variants as ending
+use Rattle.machine.specs.declared.ending.Outcome.{Outcome}
+use Rattle.machine.specs.Endings.{endingOf, outcomeOf}
+use Rattle.curiumtoad.specs.declared.check.Finding.{Finding}
+use Rattle.curiumtoad.specs.declared.check.Verdict.{Verdict}
+use Rattle.curiumtoad.specs.declared.check.Verdict.the-variants as verdict
+use Rattle.curiumtoad.specs.declared.run.RunAnswer.{RunAnswer}
+use Rattle.curiumtoad.specs.declared.run.RunAnswer.the-variants as run
+use Rattle.curiumtoad.specs.declared.run_accepted.AcceptedRun.{AcceptedRun}
+use Rattle.curiumtoad.specs.declared.run_accepted.AcceptedRun.the-variants as accepted
+use Rattle.curiumtoad.specs.Said.{verdictSaid, runSaid}
+use Rattle.curiumtoad.specs.Checked.{Checks}
+use Rattle.curiumtoad.specs.Alike.{CoveredOpening, SoundAnswer, JudgedAlike}
+use Rattle.curiumtoad.specs.Accepted.{coversSend, EndingSound, Ends, SoundEnd, Accepts}
+use Rattle.curiumtoad.proofs.Called.{scratch-filled}
+use Rattle.curiumtoad.proofs.Judging.{Given, given}
+
+-- what an accepted check had
+pub accepted-given : (b : List ℕ) (n : ℕ) → Checks b n verdict.Accepted → (args : List ℕ) × Given b n (λ M. verdictNaming M args) tt
+unfolding checkCallNaming
+accepted-given b n c = (c .args, given b n (λ M. verdictNaming M (c .args)) tt (sym (c .verdict)))
+
+pub accepted-opens : (b : List ℕ) (n : ℕ) (f : LayoutFinding) → Checks b n verdict.Accepted → Opens b (opened-answer.Refused f) → ⊥
+accepted-opens b n f c o = never f (o .answer ∙ accepted-given b n c .1 .opens)
+  where
+    never : (f : LayoutFinding) {counts : List ℕ} → saidOf f ≡ gives counts → ⊥
+    never finding.Size e = false≢true (cc)
+    never finding.Directory e = false≢true (cc)
+    never finding.Limits e = false≢true (cc)
+    never (finding.Class k) e = false≢true (cc)
+    never (finding.Function k) e = false≢true (cc)
+    never (finding.Signature k) e = false≢true (cc)
+    never (finding.Method k) e = false≢true (cc)
+    never (finding.Twin k) e = false≢true (cc)
+    never (finding.Code k) e = false≢true (cc)
+
+pub accepted-filled : (b scratch : List ℕ) {after : List ℕ} → Checks b (length scratch) verdict.Accepted → after ≡ scratchAfter b scratch → Filled (modelOf b) after
+accepted-filled b scratch c q =
+    let g = accepted-given b (length scratch) c .1 in
+    let long = leb-true scratchBytes (length scratch) (g .enough) in
+    rw (q, scratch-filled b scratch (g .counts) (g .opens) long) (filled-whole (modelOf b) scratch long)
+
+-- a run that is answered kept the rule of its send
+answered-rule : (b : List ℕ) (n f : ℕ) (tuple : List ℕ) (count : ℕ) {o : rules.Outcome} → runCall b n f tuple count ≡ gives o
+    → (sendRule (modelOf b) f tuple && every (concreteClass (modelOf b)) (used (modelOf b) f tuple)) ≡ true
+unfolding runCall runIn require
+answered-rule b n f tuple count {o} e =
+    go (sendRule (modelOf b) f tuple && every (concreteClass (modelOf b)) (used (modelOf b) f tuple)) refl
+    (given b n (runIn f tuple count) o e .gave)
+  where
+    go : (t : Bool) → (sendRule (modelOf b) f tuple && every (concreteClass (modelOf b)) (used (modelOf b) f tuple)) ≡ t
+        → require (sendRule (modelOf b) f tuple && every (concreteClass (modelOf b)) (used (modelOf b) f tuple)) 18 (gives ((rules.run (modelOf b) f (used (modelOf b) f tuple) count) .outcome)) ≡ gives o
+        → (sendRule (modelOf b) f tuple && every (concreteClass (modelOf b)) (used (modelOf b) f tuple)) ≡ true
+    go true q r = q
+    go false q r = absurd (false≢true (cc (rw q at r)))
+
+module _ (b : List ℕ) (n f : ℕ) (tuple : List ℕ) (count : ℕ) {o : rules.Outcome} (e : runCall b n f tuple count ≡ gives o) where
+  pub answered-send : sendRule (modelOf b) f tuple ≡ true
+  answered-send =
+      and-left (sendRule (modelOf b) f tuple) (every (concreteClass (modelOf b)) (used (modelOf b) f tuple)) (answered-rule b n f tuple count e)
+
+  -- a covered opening, where some signature covers the send
+  pub covered-opening : any (coversSend (modelOf b) f (used (modelOf b) f tuple)) (upto (modelOf b .signatures)) ≡ true → CoveredOpening (modelOf b) f tuple
+  unfolding coversSend
+  covered-opening c =
+      let M = modelOf b in
+      let (s, m, q) = any-mem (λ s. eqb (M .sigFunction s) f && covers M s (used M f tuple)) (upto (M .signatures)) c in
+      record {
+        kept = answered-send;
+        concrete =
+            and-right (sendRule M f tuple) (every (concreteClass M) (used M f tuple)) (answered-rule b n f tuple count e);
+        signature = s;
+        covering =
+            record {
+              present = upto-below (M .signatures) m;
+              ofFunction = eqb-true (M .sigFunction s) f (and-left (eqb (M .sigFunction s) f) (covers M s (used M f tuple)) q);
+              covered = and-right (eqb (M .sigFunction s) f) (covers M s (used M f tuple)) q;
+            };
+      }
+
+-- no signature covers it where the search finds none
+pub not-covered : (M : Model) (f : ℕ) (args : List ℕ) → any (coversSend M f args) (upto (M .signatures)) ≡ false → (s : ℕ) → Covering M f args s → ⊥
+unfolding coversSend
+not-covered M f args e s c =
+    false≢true
+    (sym e
+    ∙ any-from (λ s. eqb (M .sigFunction s) f && covers M s args) (upto (M .signatures)) (below-upto (M .signatures) s (c .present))
+    (and-both (eqb (M .sigFunction s) f) (covers M s args) (eq-eqb (M .sigFunction s) f (c .ofFunction)) (c .covered)))
+
+ending-sound : (M : Model) (f : ℕ) (args : List ℕ) (x : Ending) → SoundEnding M f args (endingOf x) → EndingSound x
+unfolding endingOf
+ending-sound M f args (ending.Value c) s = tt
+ending-sound M f args ending.Spent s = tt
+ending-sound M f args ending.Deep s = tt
+ending-sound M f args (ending.Missing g x y z) s = s
+ending-sound M f args (ending.Ambiguous g x y z m n) s = s
+ending-sound M f args (ending.Declared g x y z m) s = s
+ending-sound M f args (ending.Values m at) s = s
+ending-sound M f args (ending.Abstract m at) s = s
+
+-- the outcome that is answered is that of a sound run
+pub outcome-sound : (M : Model) (f : ℕ) (tuple : List ℕ) (count : ℕ) (o : Outcome) → SoundAnswer M f tuple count (gives (outcomeOf o)) → EndingSound (o .ending)
+unfolding outcomeOf
+outcome-sound M f tuple count o s =
+    let whole : outcomeOf o ≡ (rules.run M f (used M f tuple) count) .outcome = cc (s .answer) in
+    let same : endingOf (o .ending) ≡ (rules.run M f (used M f tuple) count) .outcome .ending = ap (λ (x : rules.Outcome). x .ending) whole in
+    ending-sound M f (used M f tuple) (o .ending) (rw same (s .whole .ending))
+
+-- what the matches on the answers of the check and of the run give
+module _ (b : List ℕ) (n f : ℕ) (tuple : List ℕ) (count : ℕ) where
+  pub accepted-check : {v : Verdict} → v ≡ verdict.Accepted → Checks b n v → Checks b n verdict.Accepted
+  accepted-check e c = rw e at c
+
+  pub ended-call : {a : RunAnswer} (o : Outcome) → a ≡ run.Ended o → runSaid a ≡ runCall b n f tuple count → runCall b n f tuple count ≡ gives (outcomeOf o)
+  ended-call o e said = sym said ∙ ap runSaid e
+
+  pub not-accepted : {v : Verdict} (found : Finding) {o : rules.Outcome} → v ≡ verdict.Refused found → Checks b n v → runCall b n f tuple count ≡ gives o
+      → Accepts b n f tuple count (accepted.NotAccepted found)
+  not-accepted found {o} e c q = (rw e at c, (o, q))
+
+  pub sound-end : {v : Verdict} {a : RunAnswer} (o : Outcome) → v ≡ verdict.Accepted → a ≡ run.Ended o → runCall b n f tuple count ≡ gives (outcomeOf o)
+      → JudgedAlike b f tuple count v a → any (coversSend (modelOf b) f (used (modelOf b) f tuple)) (upto (modelOf b .signatures)) ≡ true → EndingSound (o .ending)
+  sound-end o e q ended alike c =
+      outcome-sound (modelOf b) f tuple count o (rw q at (alike (ap verdictSaid e) (covered-opening b n f tuple count ended c)))
+
+pub accepts-end : (b : List ℕ) (n f : ℕ) (tuple : List ℕ) (count : ℕ) (r : AcceptedRun) (o : rules.Outcome) → Ends r o → Checks b n verdict.Accepted
+    → CoveredOpening (modelOf b) f tuple → runCall b n f tuple count ≡ gives o → Accepts b n f tuple count r
+accepts-end b n f tuple count (accepted.Value c k) o e a v q = record { accepted = a; covered = v; ended = q ∙ ap (λ (x : rules.Outcome). gives x) e }
+accepts-end b n f tuple count (accepted.Spent k) o e a v q = record { accepted = a; covered = v; ended = q ∙ ap (λ (x : rules.Outcome). gives x) e }
+accepts-end b n f tuple count (accepted.Deep k) o e a v q = record { accepted = a; covered = v; ended = q ∙ ap (λ (x : rules.Outcome). gives x) e }
+accepts-end b n f tuple count (accepted.NotAccepted found) o e a v q = absurd e
+accepts-end b n f tuple count accepted.NotCovered o e a v q = absurd e
+accepts-end b n f tuple count (accepted.Refused r) o e a v q = absurd e

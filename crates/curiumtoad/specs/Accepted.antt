@@ -1,0 +1,75 @@
+-- What `run_accepted` answers, from the answers of the check and of the run.
+-- Assumes nothing.
+use Prim.Native.Nat.{ℕ}
+use mathlib.Core.Path.{_≡_}
+use mathlib.Core.Bool.{Bool, _&&_}
+use mathlib.Core.List.{List}
+use lib.Dec.{eqb}
+use Rattle.rules.specs.Layout.{Answer, gives}
+use Rattle.rules.specs.Model.{Model, modelOf}
+use Rattle.rules.specs.Coverage.{covers}
+use Rattle.rules.specs.Machine as rules
+use Rattle.rules.specs.Calls.{used, runCall}
+use Rattle.rules.specs.Sound.{Covering}
+use Rattle.machine.specs.declared.ending.Ending.the-variants as ending
+use Rattle.machine.specs.declared.ending.Ending as ending-type
+use Rattle.machine.specs.declared.ending.Outcome.{Outcome}
+use Rattle.curiumtoad.specs.declared.refusal.Refusal.{Refusal}
+use Rattle.curiumtoad.specs.declared.check.Verdict.the-variants as verdict
+use Rattle.curiumtoad.specs.declared.run.RunAnswer as run-type
+use Rattle.curiumtoad.specs.declared.run.RunAnswer.the-variants as run
+use Rattle.curiumtoad.specs.declared.run_accepted.AcceptedRun as accepted-type
+use Rattle.curiumtoad.specs.declared.run_accepted.AcceptedRun.the-variants.{Value, Spent, Deep, NotAccepted, NotCovered, Refused}
+use Rattle.curiumtoad.specs.Prepared.{refusalSaid}
+use Rattle.curiumtoad.specs.Checked.{Checks}
+use Rattle.curiumtoad.specs.Alike.{CoveredOpening}
+
+-- signature s is one of function f and covers the arguments
+unfoldable pub coversSend : Model → ℕ → List ℕ → ℕ → Bool
+coversSend M f args s = eqb (M .sigFunction s) f && covers M s args
+
+-- Spent, Deep or a value
+abbrev pub EndingSound : ending-type.Ending → Type 0
+EndingSound (ending.Value c) = Unit {0}
+EndingSound ending.Spent = Unit {0}
+EndingSound ending.Deep = Unit {0}
+EndingSound (ending.Missing f x y z) = ⊥
+EndingSound (ending.Ambiguous f x y z m n) = ⊥
+EndingSound (ending.Declared f x y z m) = ⊥
+EndingSound (ending.Values m at) = ⊥
+EndingSound (ending.Abstract m at) = ⊥
+
+abbrev pub EndsSound : Outcome → Type 0
+EndsSound o = EndingSound (o .ending)
+
+-- the answer is this outcome
+abbrev pub Ends : accepted-type.AcceptedRun → rules.Outcome → Type 0
+Ends (Value c k) o = o ≡ record { ending = rules.value c; steps = k }
+Ends (Spent k) o = o ≡ record { ending = rules.spent; steps = k }
+Ends (Deep k) o = o ≡ record { ending = rules.deep; steps = k }
+Ends (NotAccepted found) o = ⊥
+Ends NotCovered o = ⊥
+Ends (Refused r) o = ⊥
+
+-- a run call that was refused
+abbrev pub Unended : run-type.RunAnswer → Type 0
+Unended (run.Ended o) = ⊥
+Unended (run.Refused r) = Unit {0}
+
+abbrev pub refusedAs : Refusal → run-type.RunAnswer
+refusedAs r = run.Refused r
+
+-- The check accepts and some signature covers the opening send, and the run ends so.
+pub record SoundEnd (b : List ℕ) (scratch f : ℕ) (tuple : List ℕ) (count : ℕ) (o : rules.Outcome) : Type 0 where
+  pub accepted : Checks b scratch verdict.Accepted
+  pub covered : CoveredOpening (modelOf b) f tuple
+  pub ended : runCall b scratch f tuple count ≡ gives o
+
+abbrev pub Accepts : List ℕ → ℕ → ℕ → List ℕ → ℕ → accepted-type.AcceptedRun → Type 0
+Accepts b scratch f tuple count (Value c k) = SoundEnd b scratch f tuple count (record { ending = rules.value c; steps = k })
+Accepts b scratch f tuple count (Spent k) = SoundEnd b scratch f tuple count (record { ending = rules.spent; steps = k })
+Accepts b scratch f tuple count (Deep k) = SoundEnd b scratch f tuple count (record { ending = rules.deep; steps = k })
+Accepts b scratch f tuple count (NotAccepted found) = Checks b scratch (verdict.Refused found) × ((o : rules.Outcome) × (runCall b scratch f tuple count ≡ gives o))
+Accepts b scratch f tuple count NotCovered =
+    Checks b scratch verdict.Accepted × ((o : rules.Outcome) × (runCall b scratch f tuple count ≡ gives o)) × ((s : ℕ) → Covering (modelOf b) f (used (modelOf b) f tuple) s → ⊥)
+Accepts b scratch f tuple count (Refused r) = runCall b scratch f tuple count ≡ refusalSaid r
