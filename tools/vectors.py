@@ -20,7 +20,7 @@ import make  # noqa: E402
 
 LONGEST = 65535
 CLASSES, FUNCTIONS, SIGNATURES, METHODS, PLACES = 128, 64, 256, 512, 3
-ABSENT, SHORT, SHORT_ROW = 18, 19, 20
+ABSENT, SHORT = 18, 19
 # The ends of a run that fails nowhere have no numbers in document 01. The test program gives them these.
 ENDS = {"value": 32, "spent": 33, "deep": 34}
 MATRIX = 16384
@@ -417,6 +417,33 @@ def run_cases(folder):
         yield bundle, [rowless(*call) for call in calls]
 
 
+# The checks that document 01 gives in full: (bundle, beside, number, values)
+CHECKS = [
+    ("chart-3", 0, 11, [0, 2, 4, 0, 0, 1]),
+    ("chart-4", 0, 0, []),
+    ("one-class", 0, 0, []),
+    # The samples that break one rule each.
+    ("abstract-argument", 0, 0, []),
+    ("narrow-declared", 0, 12, [0, 0, 0, 0, 0]),
+    ("wide-result", 0, 13, [0, 0, 0, 0, 0]),
+    ("two-values", 0, 14, [0, 2]),
+    ("abstract-new", 0, 15, [0, 0]),
+    ("no-licence", 0, 16, [0, 1]),
+    ("loose-result", 0, 17, [0, 1]),
+]
+
+
+def check_cases(folder):
+    """(bundle, [(scratch, numbers, count, beside, number, values, row afterwards)])"""
+    nothing = [0, 0, 0, 0]
+    for entry, bundle in vectors(folder, "check.jsonl"):
+        yield bundle, [rowless(SCRATCH, nothing, 0, *found(entry["answer"]))]
+    for name, *answer in CHECKS:
+        yield make.SAMPLES[name], [rowless(scratch, nothing, 0, *answer) for scratch in [SCRATCH, MATRIX]]
+    for bundle, calls in scratch_calls(folder, nothing):
+        yield bundle, [rowless(*call) for call in calls]
+
+
 def rowless(scratch, numbers, count, beside, number, values):
     """a call that is lent no row"""
     return scratch, numbers, count, beside, number, values, b""
@@ -494,6 +521,7 @@ def main():
         ("view", view_stream(folder)),
         ("lookup", lookup_stream(folder)),
         ("run", call_stream(run_cases(folder))),
+        ("check", call_stream(check_cases(folder))),
     ]:
         crate = ROOT / "crates" / f"{name}_cases"
         wanted[crate / "stdin"] = stream
