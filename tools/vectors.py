@@ -20,12 +20,14 @@ import make  # noqa: E402
 
 LONGEST = 65535
 CLASSES, FUNCTIONS, SIGNATURES, METHODS, PLACES = 128, 64, 256, 512, 3
-ABSENT, SHORT = 18, 19
+ABSENT, SHORT, SHORT_ROW = 18, 19, 20
 # The ends of a run that fails nowhere have no numbers in document 01. The test program gives them these.
 ENDS = {"value": 32, "spent": 33, "deep": 34}
 MATRIX = 16384
 # The scratch of a call is longer than the matrix, so that a byte written past it shows.
 SCRATCH = 17000
+# So is the row longer than a type.
+ROW = 140
 MOST = 2**32 - 1
 
 
@@ -376,7 +378,7 @@ def found(answer):
 
 
 def scratch_calls(folder, numbers, count=0):
-    """(bundle, [(scratch, numbers, count, beside, number, values)]): calls that are refused before the rules of their own"""
+    """(bundle, [(scratch, numbers, count, beside, number, values)]) for calls that are refused for their scratch or their bundle"""
     for bundle in make.SAMPLES.values():
         # 19 comes before 18: the second call names what is absent.
         yield bundle, [(MATRIX - 1, asked_for, count, 0, SHORT, []) for asked_for in [numbers, [LONGEST] * 4]] + [(0, numbers, count, 0, SHORT, [])]
@@ -417,12 +419,11 @@ def run_cases(folder):
         yield bundle, [rowless(*call) for call in calls]
 
 
-# The checks that document 01 gives in full: (bundle, beside, number, values)
+# The checks of document 01, and of the samples that break one rule each: (bundle, beside, number, values)
 CHECKS = [
     ("chart-3", 0, 11, [0, 2, 4, 0, 0, 1]),
     ("chart-4", 0, 0, []),
     ("one-class", 0, 0, []),
-    # The samples that break one rule each.
     ("abstract-argument", 0, 0, []),
     ("narrow-declared", 0, 12, [0, 0, 0, 0, 0]),
     ("wide-result", 0, 13, [0, 0, 0, 0, 0]),
@@ -442,6 +443,47 @@ def check_cases(folder):
         yield make.SAMPLES[name], [rowless(scratch, nothing, 0, *answer) for scratch in [SCRATCH, MATRIX]]
     for bundle, calls in scratch_calls(folder, nothing):
         yield bundle, [rowless(*call) for call in calls]
+
+
+def filled_row(length):
+    """a row as it is before a call: no byte of it is 0 or 1"""
+    return bytes(2 + k % 251 for k in range(length))
+
+
+def typed_row(length, classes):
+    """a row as it is after a call that answers"""
+    return bytes(int(c in classes) for c in range(CLASSES)) + filled_row(length)[CLASSES:]
+
+
+# P 9 of document 01 and sends beside it: (bundle, numbers, number, classes)
+SEND_TYPES = [
+    ("chart-5", [0, 2, 4, 0], 0, [0, 5, 7]),
+    # Only one of the two signatures licenses it.
+    ("chart-5", [0, 1, 3, 0], 0, [0, 5]),
+    # An abstract class is an argument too, whether the send is licensed or not.
+    ("abstract-argument", [0, 0, 0, 0], 0, [0]),
+    ("chart-5", [0, 0, 3, 0], 16, []),
+    ("chart-5", [0, 2, 4, 1], ABSENT, []),
+]
+
+
+def send_type_cases(folder):
+    """(bundle, [(scratch, numbers, count, beside, number, values, row afterwards)])"""
+
+    def call(length, numbers, number, classes):
+        if length < CLASSES:
+            # 20 comes before 18 and 16.
+            return SCRATCH, numbers, 0, 0, SHORT_ROW, [], filled_row(length)
+        return SCRATCH, numbers, 0, 0, number, [], filled_row(length) if number else typed_row(length, classes)
+
+    for entry, bundle in vectors(folder, "sendtype.jsonl"):
+        questions = [(asked_for["sendtype"], asked_for["answer"]["number"], asked_for["row"]) for asked_for in entry["calls"]]
+        yield bundle, [call(ROW, *question) for question in questions] + [call(CLASSES - 1, *questions[0])]
+    for name, *question in SEND_TYPES:
+        yield make.SAMPLES[name], [call(length, *question) for length in [ROW, CLASSES, CLASSES - 1, 0]]
+    for bundle, calls in scratch_calls(folder, [0, 0, 0, 0]):
+        # 1 to 9 and 19 come before 20.
+        yield bundle, [(*refused_call, filled_row(length)) for refused_call in calls for length in [ROW, CLASSES - 1]]
 
 
 def rowless(scratch, numbers, count, beside, number, values):
@@ -522,8 +564,9 @@ def main():
         ("lookup", lookup_stream(folder)),
         ("run", call_stream(run_cases(folder))),
         ("check", call_stream(check_cases(folder))),
+        ("send type", call_stream(send_type_cases(folder))),
     ]:
-        crate = ROOT / "crates" / f"{name}_cases"
+        crate = ROOT / "crates" / f"{name.replace(' ', '_')}_cases"
         wanted[crate / "stdin"] = stream
         wanted[crate / "stdout"] = f"{name} cases {count} differing 0\n".encode()
     if "--check" in sys.argv[1:]:
