@@ -486,6 +486,34 @@ def send_type_cases(folder):
         yield bundle, [(*refused_call, filled_row(length)) for refused_call in calls for length in [ROW, CLASSES - 1]]
 
 
+# Witness checks of the samples: (bundle, numbers, beside, number, values)
+WITNESSES = [
+    ("chart-3", [0, 2, 4, 0], 0, 11, [0, 2, 4, 0, 0, 1]),
+    ("chart-3", [0, 1, 4, 0], 0, 0, []),
+    ("chart-4", [0, 2, 4, 0], 0, 0, []),
+    ("chart-5", [1, 2, 4, 0], 0, 0, []),
+    # Not covered; absent; unused and not 0; abstract.
+    ("chart-5", [1, 1, 4, 0], 0, ABSENT, []),
+    ("chart-5", [2, 2, 4, 0], 0, ABSENT, []),
+    ("chart-5", [0, 2, 4, 1], 0, ABSENT, []),
+    ("abstract-argument", [0, 0, 0, 0], 0, ABSENT, []),
+    ("abstract-argument", [0, 1, 0, 0], 0, 0, []),
+    ("narrow-declared", [0, 0, 0, 0], 0, 12, [0, 0, 0, 0, 0]),
+    ("narrow-declared", [0, 1, 0, 0], 0, 0, []),
+    ("wide-result", [0, 0, 0, 0], 0, 13, [0, 0, 0, 0, 0]),
+]
+
+
+def witness_cases(folder):
+    """(bundle, [(scratch, numbers, count, beside, number, values, row afterwards)])"""
+    for entry, bundle in vectors(folder, "witness.jsonl"):
+        yield bundle, [rowless(SCRATCH, call["witness"], 0, *found(call["answer"])) for call in entry["calls"]]
+    for name, numbers, *answer in WITNESSES:
+        yield make.SAMPLES[name], [rowless(scratch, numbers, 0, *answer) for scratch in [SCRATCH, MATRIX]]
+    for bundle, calls in scratch_calls(folder, [0, 0, 0, 0]):
+        yield bundle, [rowless(*call) for call in calls]
+
+
 def rowless(scratch, numbers, count, beside, number, values):
     """a call that is lent no row"""
     return scratch, numbers, count, beside, number, values, b""
@@ -565,6 +593,7 @@ def main():
         ("run", call_stream(run_cases(folder))),
         ("check", call_stream(check_cases(folder))),
         ("send type", call_stream(send_type_cases(folder))),
+        ("witness", call_stream(witness_cases(folder))),
     ]:
         crate = ROOT / "crates" / f"{name.replace(' ', '_')}_cases"
         wanted[crate / "stdin"] = stream
