@@ -5,7 +5,8 @@ usage: tools/vectors.py FOLDER          write them, from the vectors of FOLDER (
        tools/vectors.py FOLDER --check  write nothing; say which differ, and exit with 1 if any does
 
 The rules of document 01 for opening, ancestry and lookup stand here a second time. They give the answers for bundles that no vector has, and every
-vector is held to them, so that an answer on which the two differ is never passed on.
+vector is held to them, so that an answer on which the two differ is never passed on. The other answers, of runs, checks, send types and witnesses,
+are those of the vectors and of document 01 as they stand.
 """
 import itertools
 import json
@@ -19,10 +20,15 @@ import make  # noqa: E402
 
 LONGEST = 65535
 CLASSES, FUNCTIONS, SIGNATURES, METHODS, PLACES = 128, 64, 256, 512, 3
-ABSENT, SHORT = 18, 19
+ABSENT, SHORT, SHORT_ROW = 18, 19, 20
+# The ends of a run that fails nowhere have no numbers in document 01. The test program gives them these.
+ENDS = {"value": 32, "spent": 33, "deep": 34}
 MATRIX = 16384
 # The scratch of a call is longer than the matrix, so that a byte written past it shows.
 SCRATCH = 17000
+# So is the row longer than a type.
+ROW = 140
+MOST = 2**32 - 1
 
 
 # The rules
@@ -360,6 +366,159 @@ def lookup_cases(folder):
         yield answered(bundle, (SCRATCH, few[:2]), (MATRIX - 1, few[:2]))
 
 
+def found(answer):
+    """the number beside an answer, its number and its values: the signature of a coverage reason or the steps of a run, else 0"""
+    beside = answer.get("steps", answer.get("signature")) or 0
+    number = ENDS[answer["end"]] if "end" in answer else answer["number"]
+    if "tuple" in answer:
+        return beside, number, [answer["function"], *answer["tuple"], *answer["methods"]]
+    if "method" in answer:
+        return beside, number, [answer["method"], answer["instruction"]]
+    return beside, number, [answer["class"]] if "class" in answer else answer.get("values", [])
+
+
+def scratch_calls(folder, numbers, count=0):
+    """(bundle, [(scratch, numbers, count, beside, number, values)]) for calls that are refused for their scratch or their bundle"""
+    for bundle in make.SAMPLES.values():
+        # 19 comes before 18: the second call names what is absent.
+        yield bundle, [(MATRIX - 1, asked_for, count, 0, SHORT, []) for asked_for in [numbers, [LONGEST] * 4]] + [(0, numbers, count, 0, SHORT, [])]
+    # Every call opens the bundle first, and one that does not open leaves the scratch as it was, however short it is.
+    refusals = [(bundle, number, values) for bundle, number, values in opening_vectors(folder) if number]
+    for bundle, number, values in [*refusals, (longest()[1], 1, [])]:
+        yield bundle, [(scratch, numbers, count, 0, number, values) for scratch in [SCRATCH, MATRIX - 1]]
+
+
+# P 7, P 8, P 10 and P 11 of document 01 and runs beside them: (bundle, numbers, count, steps, number, values)
+RUNS = [
+    ("chart-4", [0, 2, 4, 0], 1, 1, ENDS["value"], [7]),
+    ("chart-4", [0, 2, 4, 0], 0, 0, ENDS["spent"], []),
+    ("chart-4", [0, 2, 4, 0], MOST, 1, ENDS["value"], [7]),
+    ("loop", [0, 0, 0, 0], 31, 31, ENDS["spent"], []),
+    ("loop", [0, 0, 0, 0], 32, 31, ENDS["deep"], []),
+    ("loop", [0, 0, 0, 0], 0, 0, ENDS["spent"], []),
+    ("loop", [0, 0, 0, 0], 30, 30, ENDS["spent"], []),
+    ("loop", [0, 0, 0, 0], 33, 31, ENDS["deep"], []),
+    ("loop", [0, 0, 0, 0], MOST, 31, ENDS["deep"], []),
+    # The opening lookup fails, whatever the count; then what the opening body does.
+    ("chart-3", [0, 2, 4, 0], 0, 0, 11, [0, 2, 4, 0, 0, 1]),
+    ("narrow-declared", [0, 0, 0, 0], 0, 0, 12, [0, 0, 0, 0, 0]),
+    ("abstract-argument", [0, 0, 0, 0], 1, 0, ABSENT, []),
+    ("two-values", [0, 0, 0, 0], 2, 2, 14, [0, 2]),
+    ("abstract-new", [0, 0, 0, 0], 1, 0, 15, [0, 0]),
+    ("abstract-new", [0, 0, 0, 0], 0, 0, ENDS["spent"], []),
+]
+
+
+def run_cases(folder):
+    """(bundle, [(scratch, numbers, count, beside, number, values, row afterwards)])"""
+    for entry, bundle in vectors(folder, "run.jsonl"):
+        yield bundle, [rowless(SCRATCH, call["run"][:4], call["run"][4], *found(call["answer"])) for call in entry["calls"]]
+    for name, numbers, count, *answer in RUNS:
+        yield make.SAMPLES[name], [rowless(scratch, numbers, count, *answer) for scratch in [SCRATCH, MATRIX]]
+    for bundle, calls in scratch_calls(folder, [0, 0, 0, 0], MOST):
+        yield bundle, [rowless(*call) for call in calls]
+
+
+# The checks of document 01, and of the samples that break one rule each: (bundle, beside, number, values)
+CHECKS = [
+    ("chart-3", 0, 11, [0, 2, 4, 0, 0, 1]),
+    ("chart-4", 0, 0, []),
+    ("one-class", 0, 0, []),
+    ("abstract-argument", 0, 0, []),
+    ("narrow-declared", 0, 12, [0, 0, 0, 0, 0]),
+    ("wide-result", 0, 13, [0, 0, 0, 0, 0]),
+    ("two-values", 0, 14, [0, 2]),
+    ("abstract-new", 0, 15, [0, 0]),
+    ("no-licence", 0, 16, [0, 1]),
+    ("loose-result", 0, 17, [0, 1]),
+]
+
+
+def check_cases(folder):
+    """(bundle, [(scratch, numbers, count, beside, number, values, row afterwards)])"""
+    nothing = [0, 0, 0, 0]
+    for entry, bundle in vectors(folder, "check.jsonl"):
+        yield bundle, [rowless(SCRATCH, nothing, 0, *found(entry["answer"]))]
+    for name, *answer in CHECKS:
+        yield make.SAMPLES[name], [rowless(scratch, nothing, 0, *answer) for scratch in [SCRATCH, MATRIX]]
+    for bundle, calls in scratch_calls(folder, nothing):
+        yield bundle, [rowless(*call) for call in calls]
+
+
+def filled_row(length):
+    """a row as it is before a call: no byte of it is 0 or 1"""
+    return bytes(2 + k % 251 for k in range(length))
+
+
+def typed_row(length, classes):
+    """a row as it is after a call that answers"""
+    return bytes(int(c in classes) for c in range(CLASSES)) + filled_row(length)[CLASSES:]
+
+
+# P 9 of document 01 and sends beside it: (bundle, numbers, number, classes)
+SEND_TYPES = [
+    ("chart-5", [0, 2, 4, 0], 0, [0, 5, 7]),
+    # Only one of the two signatures licenses it.
+    ("chart-5", [0, 1, 3, 0], 0, [0, 5]),
+    # An abstract class is an argument too, whether the send is licensed or not.
+    ("abstract-argument", [0, 0, 0, 0], 0, [0]),
+    ("chart-5", [0, 0, 3, 0], 16, []),
+    ("chart-5", [0, 2, 4, 1], ABSENT, []),
+]
+
+
+def send_type_cases(folder):
+    """(bundle, [(scratch, numbers, count, beside, number, values, row afterwards)])"""
+
+    def call(length, numbers, number, classes):
+        if length < CLASSES:
+            # 20 comes before 18 and 16.
+            return SCRATCH, numbers, 0, 0, SHORT_ROW, [], filled_row(length)
+        return SCRATCH, numbers, 0, 0, number, [], filled_row(length) if number else typed_row(length, classes)
+
+    for entry, bundle in vectors(folder, "sendtype.jsonl"):
+        questions = [(asked_for["sendtype"], asked_for["answer"]["number"], asked_for["row"]) for asked_for in entry["calls"]]
+        yield bundle, [call(ROW, *question) for question in questions] + [call(CLASSES - 1, *questions[0])]
+    for name, *question in SEND_TYPES:
+        yield make.SAMPLES[name], [call(length, *question) for length in [ROW, CLASSES, CLASSES - 1, 0]]
+    for bundle, calls in scratch_calls(folder, [0, 0, 0, 0]):
+        # 1 to 9 and 19 come before 20.
+        yield bundle, [(*refused_call, filled_row(length)) for refused_call in calls for length in [ROW, CLASSES - 1]]
+
+
+# Witness checks of the samples: (bundle, numbers, beside, number, values)
+WITNESSES = [
+    ("chart-3", [0, 2, 4, 0], 0, 11, [0, 2, 4, 0, 0, 1]),
+    ("chart-3", [0, 1, 4, 0], 0, 0, []),
+    ("chart-4", [0, 2, 4, 0], 0, 0, []),
+    ("chart-5", [1, 2, 4, 0], 0, 0, []),
+    # Not covered; absent; unused and not 0; abstract.
+    ("chart-5", [1, 1, 4, 0], 0, ABSENT, []),
+    ("chart-5", [2, 2, 4, 0], 0, ABSENT, []),
+    ("chart-5", [0, 2, 4, 1], 0, ABSENT, []),
+    ("abstract-argument", [0, 0, 0, 0], 0, ABSENT, []),
+    ("abstract-argument", [0, 1, 0, 0], 0, 0, []),
+    ("narrow-declared", [0, 0, 0, 0], 0, 12, [0, 0, 0, 0, 0]),
+    ("narrow-declared", [0, 1, 0, 0], 0, 0, []),
+    ("wide-result", [0, 0, 0, 0], 0, 13, [0, 0, 0, 0, 0]),
+]
+
+
+def witness_cases(folder):
+    """(bundle, [(scratch, numbers, count, beside, number, values, row afterwards)])"""
+    for entry, bundle in vectors(folder, "witness.jsonl"):
+        yield bundle, [rowless(SCRATCH, call["witness"], 0, *found(call["answer"])) for call in entry["calls"]]
+    for name, numbers, *answer in WITNESSES:
+        yield make.SAMPLES[name], [rowless(scratch, numbers, 0, *answer) for scratch in [SCRATCH, MATRIX]]
+    for bundle, calls in scratch_calls(folder, [0, 0, 0, 0]):
+        yield bundle, [rowless(*call) for call in calls]
+
+
+def rowless(scratch, numbers, count, beside, number, values):
+    """a call that is lent no row"""
+    return scratch, numbers, count, beside, number, values, b""
+
+
 def little_endian(width, *numbers):
     return b"".join(n.to_bytes(width, "little") for n in numbers)
 
@@ -395,6 +554,20 @@ def lookup_stream(folder):
     return stream, count
 
 
+def call_stream(cases):
+    """cases: (bundle, [(scratch, numbers, count, beside, number, values, row afterwards)])"""
+    stream, count_of_calls = [], 0
+    for bundle, calls in cases:
+        opened = opening(bundle)
+        stream += little_endian(3, len(bundle)), bundle, little_endian(2, len(calls))
+        for scratch, numbers, count, beside, number, values, row in calls:
+            if opened[0] or 0 < number < 10:
+                held(bundle, (number, values), opened)
+            stream += little_endian(2, scratch, len(row), *numbers), little_endian(4, count, beside), expected(number, values), row
+            count_of_calls += 1
+    return b"".join(stream), count_of_calls
+
+
 def view_stream(folder):
     stream, count = b"", 0
     for bundle, calls in view_cases(folder):
@@ -413,8 +586,16 @@ def main():
         sys.exit(__doc__)
     folder = pathlib.Path(folders[0])
     wanted = {}
-    for name, (stream, count) in [("opening", opening_stream(folder)), ("view", view_stream(folder)), ("lookup", lookup_stream(folder))]:
-        crate = ROOT / "crates" / f"{name}_cases"
+    for name, (stream, count) in [
+        ("opening", opening_stream(folder)),
+        ("view", view_stream(folder)),
+        ("lookup", lookup_stream(folder)),
+        ("run", call_stream(run_cases(folder))),
+        ("check", call_stream(check_cases(folder))),
+        ("send type", call_stream(send_type_cases(folder))),
+        ("witness", call_stream(witness_cases(folder))),
+    ]:
+        crate = ROOT / "crates" / f"{name.replace(' ', '_')}_cases"
         wanted[crate / "stdin"] = stream
         wanted[crate / "stdout"] = f"{name} cases {count} differing 0\n".encode()
     if "--check" in sys.argv[1:]:

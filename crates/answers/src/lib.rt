@@ -1,5 +1,8 @@
 // The answers of the entry points as document 01 numbers them, for the test programs to compare with expected ones and with those of the second
 // implementation.
+pub mod calls;
+pub mod noted;
+
 use cases::Answer;
 use curiumtoad::ancestry::AncestryAnswer;
 use curiumtoad::ancestry::ancestry;
@@ -26,11 +29,17 @@ pub fn of_refusal(refusal: Refusal) -> Answer {
 }
 
 // A coverage reason: the function and its tuple, then the methods.
-fn of_send(number: usize, send: Send, first: usize, second: usize) -> Answer {
+pub fn of_send(number: usize, send: Send, first: usize, second: usize) -> Answer {
     Answer {
         number,
         values: [send.function, send.a0, send.a1, send.a2, first, second],
     }
+}
+
+// Whether a call with this answer leaves the scratch as it was: 1 to 9 and 19.
+pub fn leaves_scratch(expected: Answer) -> bool {
+    let refusal = expected.number;
+    refusal == 19 || (0 < refusal && refusal < 10)
 }
 
 // Yes is the value 1, no is 0.

@@ -34,15 +34,9 @@ impl Call {
     }
 }
 
-// Whether a call with this answer leaves the scratch as it was: 1 to 9 and 19.
-fn leaves_scratch(expected: Answer) -> bool {
-    let refusal = expected.number;
-    refusal == 19 || (0 < refusal && refusal < 10)
-}
-
 // Whether the scratch is as the expected answer leaves it, and the second implementation agrees where it has to.
 fn confirms(bundle: &[u8], scratch: &[u8], question: Question, expected: Answer) -> bool {
-    if leaves_scratch(expected) {
+    if answers::leaves_scratch(expected) {
         return scratch::is_untouched(scratch, 0);
     }
     scratch::is_matrix(bundle, scratch) && question.second_answer(bundle).is_same(expected)
