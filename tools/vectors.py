@@ -6,7 +6,7 @@ usage: tools/vectors.py FOLDER          write them, from the vectors of FOLDER (
 
 The rules of document 01 for opening, ancestry and lookup stand here a second time. They give the answers for bundles that no vector has, and every
 vector is held to them, so that an answer on which the two differ is never passed on. The other answers, of runs, checks, send types and witnesses,
-are those of the vectors and of document 01 as they stand.
+are those of the vectors and of document 01 as they stand; those for bundles made here are worked out by hand from its rules.
 """
 import itertools
 import json
@@ -256,6 +256,42 @@ def of_document_01():
         yield bundle, number, [record]
 
 
+def flat(count):
+    """concrete classes that have class 0 as their one parent"""
+    return [(make.CONCRETE, [0] if k else []) for k in range(count)]
+
+
+def most_tuples(last):
+    """one signature that covers 128 * 128 * 128 tuples and one method for all of them; last: a second method, for the last tuple alone, whose result
+    the signature does not allow"""
+    top = [CLASSES - 1] * PLACES
+    methods = [(0, [0] * PLACES, [0] * PLACES, 1, [(make.NEW, 1)])] + [(0, top, top, 2, [(make.NEW, 2)])] * last
+    return make.bundle(flat(CLASSES), [PLACES], [(0, [0] * PLACES, 1)], methods)
+
+
+def without_method():
+    return make.bundle(flat(1), [0], [(0, [], 0)])
+
+
+def descent(last):
+    """a function of one argument that calls itself on the class before its argument, down to class 0, which it returns"""
+    methods = [(0, [0], [0], 0, [(make.ARG, 0)])] + [(0, [k], [k], 0, [(make.NEW, k - 1), (make.SEND, 0)]) for k in range(1, last + 1)]
+    return make.bundle(flat(last + 1), [1], [(0, [0], 0)], methods)
+
+
+def doubling(last):
+    """functions 0 to last of no argument: each but the first sends the one before it twice, and joins the two values by the function after last"""
+    join = last + 1
+    methods = [(0, [], [], 0, [(make.NEW, 0)])]
+    methods += [(f, [], [], 0, [(make.SEND, f - 1), (make.SEND, f - 1), (make.SEND, join)]) for f in range(1, join)]
+    methods += [(join, [0, 0], [0, 0], 0, [(make.NEW, 0)])]
+    return make.bundle(flat(1), [0] * join + [2], [(f, [0] * (2 * (f == join)), 0) for f in range(join + 1)], methods)
+
+
+def doubling_steps(last):
+    return 5 * 2**last - 4
+
+
 # The cases, and the files
 
 
@@ -409,12 +445,36 @@ RUNS = [
 ]
 
 
+FRAMES = 32
+LONG_RUN = 100_000_000
+
+
+def recursive_runs():
+    """(bundle, numbers, count, steps, number, values) of runs that call and return"""
+    # A step for NEW and one for SEND in each frame but the last, which has ARG. The class one higher needs one frame more.
+    most = FRAMES - 1
+    for k, count, steps, *end in [
+        (0, MOST, 1, ENDS["value"], [0]), (1, MOST, 3, ENDS["value"], [0]), (most, MOST, 2 * most + 1, ENDS["value"], [0]),
+        (most, 2 * most + 1, 2 * most + 1, ENDS["value"], [0]), (most, 2 * most, 2 * most, ENDS["spent"], []),
+        (FRAMES, MOST, 2 * most + 1, ENDS["deep"], []), (FRAMES, 2 * most + 1, 2 * most + 1, ENDS["spent"], []),
+    ]:
+        yield descent(FRAMES), [0, k, 0, 0], count, steps, *end
+    for last in [0, 1, 4, 12]:
+        steps = doubling_steps(last)
+        yield doubling(last), [last, 0, 0, 0], MOST, steps, ENDS["value"], [0]
+        yield doubling(last), [last, 0, 0, 0], steps - 1, steps - 1, ENDS["spent"], []
+    assert doubling_steps(25) > LONG_RUN
+    yield doubling(25), [25, 0, 0, 0], LONG_RUN, LONG_RUN, ENDS["spent"], []
+
+
 def run_cases(folder):
     """(bundle, [(scratch, numbers, count, beside, number, values, row afterwards)])"""
     for entry, bundle in vectors(folder, "run.jsonl"):
         yield bundle, [rowless(SCRATCH, call["run"][:4], call["run"][4], *found(call["answer"])) for call in entry["calls"]]
     for name, numbers, count, *answer in RUNS:
         yield make.SAMPLES[name], [rowless(scratch, numbers, count, *answer) for scratch in [SCRATCH, MATRIX]]
+    for bundle, numbers, count, *answer in recursive_runs():
+        yield bundle, [rowless(SCRATCH, numbers, count, *answer)]
     for bundle, calls in scratch_calls(folder, [0, 0, 0, 0], MOST):
         yield bundle, [rowless(*call) for call in calls]
 
@@ -441,6 +501,9 @@ def check_cases(folder):
         yield bundle, [rowless(SCRATCH, nothing, 0, *found(entry["answer"]))]
     for name, *answer in CHECKS:
         yield make.SAMPLES[name], [rowless(scratch, nothing, 0, *answer) for scratch in [SCRATCH, MATRIX]]
+    yield without_method(), [rowless(SCRATCH, nothing, 0, 0, 10, [0, 0, 0, 0])]
+    yield most_tuples(False), [rowless(SCRATCH, nothing, 0, 0, 0, [])]
+    yield most_tuples(True), [rowless(SCRATCH, nothing, 0, 0, 13, [0, *[CLASSES - 1] * PLACES, 1])]
     for bundle, calls in scratch_calls(folder, nothing):
         yield bundle, [rowless(*call) for call in calls]
 
