@@ -16,7 +16,7 @@ pub fn open(bundle: &[u8]) -> Opening
 }
 
 // What a bundle that does not open breaks.
-pub fn finding(opening: Opening) -> LayoutFinding
+pub(crate) fn finding(opening: Opening) -> LayoutFinding
     requires { ⌜ Refuses opening ⌝ }
     ensures { λ r. ⌜ opening ≡ Refused r ⌝ }
 {

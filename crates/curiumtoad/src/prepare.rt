@@ -16,7 +16,7 @@ pub enum Prepared {
 }
 
 // The opened bundle with the matrix in the scratch, or the refusal, 1 to 9 or 19, that leaves the scratch as it was.
-pub fn prepare(bundle: &[u8], scratch: &mut [u8]) -> Prepared
+pub(crate) fn prepare(bundle: &[u8], scratch: &mut [u8]) -> Prepared
     ensures { λ r. ⌜ Prepares (now (bundle .entry)) (now (scratch .entry)) r ⌝ }
     ensures { λ r. ⌜ now (scratch .exit) ≡ scratchAfter (now (bundle .entry)) (now (scratch .entry)) ⌝ }
 {
@@ -32,7 +32,7 @@ pub fn prepare(bundle: &[u8], scratch: &mut [u8]) -> Prepared
 }
 
 // The refusal of a call that could not be prepared.
-pub fn refusal(prepared: Prepared) -> Refusal
+pub(crate) fn refusal(prepared: Prepared) -> Refusal
     requires { ⌜ Turned prepared ⌝ }
     ensures { λ r. ⌜ prepared ≡ Prepared.Refused r ⌝ }
 {

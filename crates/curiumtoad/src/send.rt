@@ -33,7 +33,7 @@ fn fits(classes: usize, n: usize, i: usize, x: usize) -> bool
 }
 
 // Whether the function and the classes at its places are there, and unused places hold 0.
-pub fn is_send(bundle: &[u8], b: Bundle, function: usize, args: &[usize]) -> bool
+pub(crate) fn is_send(bundle: &[u8], b: Bundle, function: usize, args: &[usize]) -> bool
     requires { ⌜ Opened (now bundle) b ⌝ }
     requires { ⌜ length (now args) ≡ places ⌝ }
     ensures { λ r. ⌜ r ≡ sendRule (modelOf (now (bundle .entry))) function (now (args .entry)) ⌝ }
@@ -54,7 +54,7 @@ pub fn is_send(bundle: &[u8], b: Bundle, function: usize, args: &[usize]) -> boo
 }
 
 // Whether the first n arguments, which are classes of the bundle, are concrete.
-pub fn all_concrete(bundle: &[u8], b: Bundle, n: usize, args: &[usize]) -> bool
+pub(crate) fn all_concrete(bundle: &[u8], b: Bundle, n: usize, args: &[usize]) -> bool
     requires { ⌜ Opened (now bundle) b ⌝ }
     requires { ⌜ n ≤ length (now args) ⌝ }
     requires { ⌜ present (modelOf (now bundle)) (take n (now args)) ≡ true ⌝ }

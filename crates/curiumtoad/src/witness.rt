@@ -50,7 +50,7 @@ pub enum WitnessAnswer {
 }
 
 // What a judgement of a send under a signature comes to.
-pub fn named(signature: usize, send: Send, judgement: Judgement) -> Judged
+pub(crate) fn named(signature: usize, send: Send, judgement: Judgement) -> Judged
     ensures { λ r. ⌜ judgedSaid r ≡ coverageValues signature (sendValues send) (judgementOf judgement) ⌝ }
 {
     match judgement {
@@ -65,7 +65,7 @@ pub fn named(signature: usize, send: Send, judgement: Judgement) -> Judged
 }
 
 // Whether the signature covers its first n arguments, which are classes of the bundle.
-pub fn covering(
+pub(crate) fn covering(
     bundle: &[u8],
     b: Bundle,
     scratch: &[u8],
