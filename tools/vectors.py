@@ -269,6 +269,13 @@ def most_tuples(last):
     return make.bundle(flat(CLASSES), [PLACES], [(0, [0] * PLACES, 1)], methods)
 
 
+def most_methods():
+    """the same tuples with as many methods of the function as there may be; the ones that apply to a tuple go from the general to the special"""
+    places = [[0, 0, 0]] + [[k, j, 0] for j in range(4) for k in range(1, CLASSES)]
+    places += [[k, 4, 0] for k in range(1, 1 + METHODS - len(places))]
+    return make.bundle(flat(CLASSES), [PLACES], [(0, [0] * PLACES, 1)], [(0, own, own, 1, [(make.NEW, 1)]) for own in places])
+
+
 def without_method():
     return make.bundle(flat(1), [0], [(0, [], 0)])
 
@@ -503,6 +510,7 @@ def check_cases(folder):
         yield make.SAMPLES[name], [rowless(scratch, nothing, 0, *answer) for scratch in [SCRATCH, MATRIX]]
     yield without_method(), [rowless(SCRATCH, nothing, 0, 0, 10, [0, 0, 0, 0])]
     yield most_tuples(False), [rowless(SCRATCH, nothing, 0, 0, 0, [])]
+    yield most_methods(), [rowless(SCRATCH, nothing, 0, 0, 0, [])]
     yield most_tuples(True), [rowless(SCRATCH, nothing, 0, 0, 13, [0, *[CLASSES - 1] * PLACES, 1])]
     for bundle, calls in scratch_calls(folder, nothing):
         yield bundle, [rowless(*call) for call in calls]
