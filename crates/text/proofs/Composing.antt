@@ -1,0 +1,156 @@
+-- The lines put together: the text for a bundle that opens, and for one that does not.
+-- Assumes nothing.
+use Prim.Native.Nat.{ℕ, _+_, _≤_, _<_}
+use native.Mathlib.Omega.{arith}
+use mathlib.Core.Path.{_≡_, refl, sym, ap, subst, _∙_}
+use mathlib.Core.List.{List, [], _∷_, _++_}
+use mathlib.Core.Option.{Option, none, some}
+use lib.ListN.{length, getD, take, drop}
+use lib.Seq.{length-take-le}
+use Rattle.rules.specs.Layout.{Answer, gives, refuses, opening, require}
+use Rattle.rules.specs.Model.{Model, Wellformed, modelOf}
+use Rattle.rules.specs.Types.{Typing, typed, breaks, typeBody}
+use Rattle.rules.specs.Coverage.{Judgement, holds, fails, judge, brokenMethod, brokenSignature, coverageRefusal, bodyRefusal, bodyVerdict, coverageVerdict, verdictNaming, firstBroken}
+use Rattle.rules.specs.Calls.{scratchBytes, whenOpen, onOpening, withScratch, checkCallNaming}
+use Rattle.rules.proofs.Coverage.{broken-signature, first-names}
+use Rattle.layout.specs.Opening.{saidOf}
+use Rattle.layout.specs.declared.bundle.Bundle.{Bundle}
+use Rattle.layout.specs.declared.finding.LayoutFinding as layout-type
+use Rattle.layout.specs.declared.finding.LayoutFinding.the-variants as layout
+use Rattle.layout.proofs.Opened.{wellformed-of, counts-of, opened-of}
+use Rattle.curiumtoad.specs.declared.witness.CoverageFinding as coverage-type
+use Rattle.curiumtoad.specs.declared.witness.CoverageFinding.the-variants as coverage
+use Rattle.curiumtoad.specs.declared.check.Finding.the-variants as finding
+use Rattle.curiumtoad.specs.declared.check.Verdict as verdict-type
+use Rattle.curiumtoad.specs.declared.check.Verdict.the-variants as verdict
+use Rattle.curiumtoad.specs.Refusal.{numberOf, valuesOf}
+use Rattle.curiumtoad.specs.Said.{coverageSaid, verdictSaid}
+use Rattle.curiumtoad.specs.Checked.{Checks}
+use Rattle.text.specs.declared.listing.ListingAnswer.the-variants as listing
+use Rattle.text.specs.Text.{countsLine, verdictLine, listingOn, listingNaming}
+use Rattle.text.specs.Appended.{Appended}
+use Rattle.text.specs.Listed.{functionOf, Named, OpenedAs, Composed, Lists, layoutLine}
+use Rattle.text.proofs.Growing.{grown-both}
+
+-- how many values come with a number, and the second of them
+abbrev many : Answer (Unit {0}) → ℕ
+many (gives x) = 0
+many (refuses number values) = length values
+
+abbrev second : Answer (Unit {0}) → ℕ
+second (gives x) = 0
+second (refuses number values) = getD values 1 0
+
+-- a coverage finding comes with five values or more, and the second is the function
+coverage-many : (c : coverage-type.CoverageFinding) → 5 ≤ many (coverageSaid c)
+coverage-many (coverage.Missing s x) = omega arith
+coverage-many (coverage.Ambiguous s x m n) = omega arith
+coverage-many (coverage.Declared s x m) = omega arith
+coverage-many (coverage.Result s x m) = omega arith
+
+coverage-second : (c : coverage-type.CoverageFinding) → functionOf c ≡ second (coverageSaid c)
+coverage-second (coverage.Missing s x) = refl
+coverage-second (coverage.Ambiguous s x m n) = refl
+coverage-second (coverage.Declared s x m) = refl
+coverage-second (coverage.Result s x m) = refl
+
+module _ (M : Model) where
+  body-few : (m : ℕ) (t : Typing) → many (bodyRefusal m t) ≤ 2
+  unfolding bodyRefusal
+  body-few m typed = omega arith
+  body-few m (breaks number at) = omega arith
+
+  bodies-few : (m : Option ℕ) → many (bodyVerdict M m) ≤ 2
+  unfolding bodyVerdict
+  bodies-few none = omega arith
+  bodies-few (some m) = body-few m (typeBody M m)
+
+  refusal-second : (s : ℕ) (args : List ℕ) (j : Judgement) → 5 ≤ many (coverageRefusal M s args j) → second (coverageRefusal M s args j) ≡ M .sigFunction s
+  unfolding coverageRefusal
+  refusal-second s args (holds m) h = absurd (omega (arith, h))
+  refusal-second s args (fails number ms) h = refl
+
+  -- the second of five values of a verdict is a function that is there
+  verdict-second : Wellformed M → (args : List ℕ) (o : Option ℕ) → brokenSignature M ≡ o → 5 ≤ many (coverageVerdict M o args)
+      → second (coverageVerdict M o args) < M .functions
+  unfolding coverageVerdict
+  verdict-second w args none e h = absurd (omega (arith, h, bodies-few (brokenMethod M)))
+  verdict-second w args (some s) e h =
+      subst (λ (f : ℕ). f < M .functions) (sym (refusal-second s args (judge M s args) h)) (w .sig-function s (broken-signature M s e .0))
+
+-- a layout refusal is a number with its values
+refused-said : (f : layout-type.LayoutFinding) → refuses (numberOf (saidOf f)) (valuesOf (saidOf f)) ≡ saidOf f
+refused-said layout.Size = refl
+refused-said layout.Directory = refl
+refused-said layout.Limits = refl
+refused-said (layout.Class k) = refl
+refused-said (layout.Function k) = refl
+refused-said (layout.Signature k) = refl
+refused-said (layout.Method k) = refl
+refused-said (layout.Twin k) = refl
+refused-said (layout.Code k) = refl
+
+module _ {b : List ℕ} {t : Bundle} (o : OpenedAs b t) where
+  -- the check of a bundle that opens, with scratch enough, is the verdict
+  checked : (scratch : ℕ) (args : List ℕ) → scratch ≡ scratchBytes → checkCallNaming b scratch args ≡ verdictNaming (modelOf b) args
+  unfolding checkCallNaming withScratch whenOpen onOpening require
+  checked scratch args h = rw (sym (o .answer), h) refl
+
+  pub verdict-named : (scratch : ℕ) (r : verdict-type.Verdict) → scratch ≡ scratchBytes → Checks b scratch r → Named (t .functions) r
+  unfolding verdictNaming
+  verdict-named scratch verdict.Accepted h c = tt
+  verdict-named scratch (verdict.Refused (finding.Layout f)) h c = tt
+  verdict-named scratch (verdict.Refused finding.Scratch) h c = tt
+  verdict-named scratch (verdict.Refused (finding.Coverage x)) h c =
+      let M = modelOf b in
+      let e : coverageSaid x ≡ coverageVerdict M (brokenSignature M) (c .args) = c .verdict ∙ checked scratch (c .args) h in
+      let there = verdict-second M (wellformed-of (opened-of o)) (c .args) (brokenSignature M) refl (subst (λ (a : Answer (Unit {0})). 5 ≤ many a) e (coverage-many x)) in
+      omega (arith, there, coverage-second x, ap second e, counts-of (opened-of o) .functions)
+  verdict-named scratch (verdict.Refused (finding.Body x)) h c = tt
+
+  pub composed-opened : (scratch : ℕ) (v : verdict-type.Verdict) (old mid new : List ℕ) (q r : ℕ) → scratch ≡ scratchBytes → Checks b scratch v → 512 ≤ length old
+      → Appended 140 old 0 (countsLine (t .classes ∷ t .functions ∷ t .signatures ∷ t .methods ∷ [])) mid q
+      → Appended 268 mid q (verdictLine (modelOf b) (verdictSaid v)) new r → Composed b new r
+  unfolding listingNaming listingOn
+  composed-opened scratch v old mid new q r h c room counts line =
+      let M = modelOf b in
+      let both = grown-both counts line in
+      let head = countsLine (t .classes ∷ t .functions ∷ t .signatures ∷ t .methods ∷ []) in
+      record {
+        args = c .args;
+        names = c .names;
+        fits = omega (arith, both .bound, both .same, room);
+        written =
+            both .text
+            ∙ ap (λ (a : Answer (Unit {0})). head ++ verdictLine M a) (c .verdict ∙ checked scratch (c .args) h)
+            ∙ ap (λ (a : Answer (List ℕ)). listingOn a M (c .args)) (o .answer);
+      }
+
+pub composed-refused : (b : List ℕ) (f : layout-type.LayoutFinding) (old new : List ℕ) (r : ℕ) → saidOf f ≡ opening b → 512 ≤ length old
+    → Appended 76 old 0 (layoutLine (modelOf b) f) new r → Composed b new r
+unfolding listingNaming listingOn
+composed-refused b f old new r e room a =
+    let M = modelOf b in
+    let args = firstBroken M (brokenSignature M) in
+    record {
+      args = args;
+      names = first-names M;
+      fits = omega (arith, a .bound, a .same, room);
+      written = a .text ∙ ap (λ (x : Answer (List ℕ)). listingOn x M args) (refused-said f ∙ e);
+    }
+
+-- the text has as many bytes as were composed
+composed-length : {b own : List ℕ} {r : ℕ} (c : Composed b own r) → length (listingNaming b (c .args)) ≡ r
+composed-length {b} {own} {r} c = ap length (sym (c .written)) ∙ length-take-le r own (c .fits)
+
+pub listed-short : (b own old : List ℕ) (r : ℕ) → Composed b own r → length old < r → Lists b old old listing.Short
+listed-short b own old r c h = record { args = c .args; names = c .names; written = (omega (arith, h, composed-length c), refl) }
+
+pub listed-written : (b own old new : List ℕ) (r : ℕ) → Composed b own r → r ≤ length old → new ≡ take r own ++ drop r old → Lists b old new (listing.Written r)
+listed-written b own old new r c h e =
+    let n = composed-length c in
+    record {
+      args = c .args;
+      names = c .names;
+      written = (sym n, omega (arith, h, n), e ∙ ap (λ (t : List ℕ). t ++ drop r old) (c .written) ∙ ap (λ (k : ℕ). listingNaming b (c .args) ++ drop k old) (sym n));
+    }

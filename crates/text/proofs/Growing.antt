@@ -1,0 +1,67 @@
+-- Text that grows: one piece after another.
+-- Assumes nothing.
+use Prim.Native.Nat.{ℕ, suc, _+_, _≤_, _<_}
+use native.Mathlib.Omega.{arith}
+use native.Mathlib.Numerals.{add-one}
+use mathlib.Core.Path.{_≡_, refl, sym, ap, subst, _∙_}
+use mathlib.Core.List.{List, [], _∷_, _++_, append-nil, append-assoc}
+use lib.ListN.{length, take, drop, set, getD, length-set}
+use lib.Seq.{take-suc, take-suc-set, paste, paste-suc}
+use Rattle.text.specs.Text.{field, classes}
+use Rattle.text.specs.Appended.{Appended}
+
+-- no piece
+pub grown-none : (most : ℕ) (old : List ℕ) (at : ℕ) → Appended most old at [] old at
+grown-none most old at = record { bound = omega arith; same = refl; text = sym (append-nil (take at old)) }
+
+-- one byte
+pub grown-byte : (old : List ℕ) (at v : ℕ) → at < length old → Appended 1 old at (v ∷ []) (set old at v) (at + 1)
+grown-byte old at v h =
+    record { bound = omega arith; same = length-set old at v; text = rw (add-one at, take-suc-set old at v h) refl }
+
+-- one piece and then another
+pub grown-both : {k l at q r : ℕ} {old mid new p s : List ℕ} → Appended k old at p mid q → Appended l mid q s new r → Appended (k + l) old at (p ++ s) new r
+grown-both {k} {l} {at} {q} {r} {old} {mid} {new} {p} {s} a b =
+    record {
+      bound = omega (arith, a .bound, b .bound);
+      same = b .same ∙ a .same;
+      text = b .text ∙ ap (λ (x : List ℕ). x ++ s) (a .text) ∙ append-assoc (take at old) p s;
+    }
+
+-- the room may be said to be more
+pub grown-wider : {k at r : ℕ} (l : ℕ) {old new p : List ℕ} → k ≤ l → Appended k old at p new r → Appended l old at p new r
+grown-wider l h a = record { bound = omega (arith, h, a .bound); same = a .same; text = a .text }
+
+-- the same piece said otherwise
+pub grown-as : {k at r : ℕ} {old new p q : List ℕ} → p ≡ q → Appended k old at p new r → Appended k old at q new r
+grown-as {k} {at} {r} {old} {new} e a = subst (λ (x : List ℕ). Appended k old at x new r) e a
+
+-- one byte more of a word
+pub grown-copied : (old text word : List ℕ) (at i : ℕ) → at + i < length text → i < length word → Appended i old at (take i word) text (at + i)
+    → Appended (i + 1) old at (take (i + 1) word) (set text (at + i) (getD word i 0)) (at + (i + 1))
+grown-copied old text word at i h l a =
+    let e : at + i + 1 ≡ at + (i + 1) = omega arith in
+    let piece : take i word ++ (getD word i 0 ∷ []) ≡ take (i + 1) word = rw (add-one i) (sym (take-suc word i 0 l)) in
+    grown-as piece
+    (subst (λ (r : ℕ). Appended (i + 1) old at (take i word ++ (getD word i 0 ∷ [])) (set text (at + i) (getD word i 0)) r) e
+    (grown-both a (grown-byte text (at + i) (getD word i 0) h)))
+
+-- a copy to the start of a list: one byte more, and what it comes to
+pub pasted : (to from : List ℕ) (i : ℕ) → i < length to → i < length from → set (paste to 0 from i) i (getD from i 0) ≡ paste to 0 from (i + 1)
+pasted to from i h l =
+    let e : 0 + i ≡ i = omega arith in
+    rw (add-one i) (subst (λ (k : ℕ). set (paste to 0 from i) k (getD from i 0) ≡ paste to 0 from (suc i)) e (paste-suc to 0 from i 0 (omega arith) l))
+
+pub pasted-start : (to from : List ℕ) (n : ℕ) → paste to 0 from n ≡ take n from ++ drop n to
+pasted-start to from n =
+    let e : 0 + n ≡ n = omega arith in
+    ap (λ (k : ℕ). take n from ++ drop k to) e
+
+-- the classes of two lists, one after the other
+pub classes-both : (xs ys : List ℕ) → classes (xs ++ ys) ≡ classes xs ++ classes ys
+unfolding classes
+classes-both [] ys = refl
+classes-both (x ∷ xs) ys = ap (λ (l : List ℕ). field " " x ++ l) (classes-both xs ys) ∙ sym (append-assoc (field " " x) (classes xs) (classes ys))
+
+pub classes-more : (xs : List ℕ) (i : ℕ) → i < length xs → classes (take i xs) ++ classes (getD xs i 0 ∷ []) ≡ classes (take (i + 1) xs)
+classes-more xs i h = sym (classes-both (take i xs) (getD xs i 0 ∷ [])) ∙ ap classes (rw (add-one i) (sym (take-suc xs i 0 h)))

@@ -1,0 +1,26 @@
+-- `text::append::put_field` meets its contract.
+-- Assumes nothing.
+use Rattle.text.specs.Text.{decimal}
+use Rattle.text.proofs.Growing.{grown-both}
+use borrow.Author.Needs.{needs}
+use Rattle.text.proofs.append.put_field.Statement.{statement}
+use Rattle.text.proofs.append.put_field.Tie as tie
+
+put-word-requires : tie.Need-put-word-requires
+put-word-requires c κs = search needs
+
+put-digits-requires : tie.Need-put-digits-requires
+put-digits-requires c κs = search needs
+
+same-length : tie.Need-same-length
+same-length c = search needs
+
+returns : tie.Need-returns
+unfolding decimal
+returns c =
+    let s2 = c .before .before in
+    let s1 = s2 .before .before .before .before in
+    (grown-both (s1 .put-word .ensures) (s2 .put-digits .ensures))
+
+pub put-field-spec : {M : Type 1} → statement M
+put-field-spec = tie.close (tie.spec put-word-requires put-digits-requires same-length returns)

@@ -1,0 +1,75 @@
+-- `text::append::put_word` meets its contract. The loop's invariant: the text has grown by the first i bytes of the word.
+-- Assumes nothing.
+use Prim.Native.Nat.{_+_, _-_, _≤_}
+use native.Mathlib.Nat.{add-zero}
+use native.Mathlib.Omega.{arith}
+use mathlib.Core.Path.{_≡_, sym}
+use lib.ListN.{length, take, getD}
+use lib.Seq.{take-all}
+use Rattle.text.specs.Appended.{Appended}
+use Rattle.text.proofs.Growing.{grown-none, grown-copied, grown-wider, grown-as}
+use Rattle.text.proofs.append.put_word.Statement.{statement}
+use Rattle.text.proofs.append.put_word.Tie as tie
+
+abbrev Inv-loop : tie.InvT-loop
+Inv-loop text₀ at word i₀ text i = (i ≤ length word) × Appended i text₀ at (take i word) text (at + i)
+
+abbrev μ-loop : tie.MeasureT-loop
+μ-loop text₀ at word i₀ text i = length word - i
+
+loop-holds : tie.Need-loop-holds Inv-loop μ-loop
+loop-holds c = (omega arith, rw (add-zero (c .args .at)) (grown-none 0 (c .args .text .now) (c .args .at)))
+
+shared-slice-read-text : tie.Need-shared-slice-read-text Inv-loop μ-loop
+shared-slice-read-text c = omega arith
+
+add-text : tie.Need-add-text Inv-loop μ-loop
+add-text c = omega (arith, c .before .before .loop .inv .1 .same)
+
+slice-write-text : tie.Need-slice-write-text Inv-loop μ-loop
+slice-write-text c =
+    let s = c .before .before in
+    omega (arith, s .before .pre .0, s .before .pre .1, s .loop .inv .1 .same)
+
+add-i : tie.Need-add-i Inv-loop μ-loop
+add-i c = omega arith
+
+loop-less : tie.Need-loop-less Inv-loop μ-loop
+loop-less c = omega arith
+
+loop-again : tie.Need-loop-again Inv-loop μ-loop
+loop-again c =
+    let s = c .before .before in
+    let a = s .before .args in
+    let l = s .loop in
+    let within = c .before .loop-test .taken in
+    (omega arith, grown-copied (a .text .now) (l .text) (a .word .now) (a .at) (l .i) (omega (arith, s .before .pre .0, s .before .pre .1, l .inv .1 .same)) (omega arith) (l .inv .1))
+
+add-result : tie.Need-add-result Inv-loop μ-loop
+add-result c = omega (arith, c .before .before .pre .0, c .before .before .pre .1, c .before .loop .inv .0)
+
+same-length : tie.Need-same-length Inv-loop μ-loop
+same-length c = c .before .loop .inv .1 .same
+
+returns : tie.Need-returns Inv-loop μ-loop
+returns c =
+    let l = c .before .loop in
+    let word = c .before .before .args .word .now in
+    grown-wider 12 (omega (arith, c .before .before .pre .0)) (grown-as (take-all (l .i) word (omega arith)) (l .inv .1))
+
+pub put-word-spec : {M : Type 1} → statement M
+put-word-spec =
+    tie.close
+    (tie.spec
+    Inv-loop
+    μ-loop
+    loop-holds
+    shared-slice-read-text
+    add-text
+    slice-write-text
+    add-i
+    loop-less
+    loop-again
+    add-result
+    same-length
+    returns)

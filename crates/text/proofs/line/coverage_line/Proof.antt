@@ -1,0 +1,32 @@
+-- `text::line::coverage_line` meets its contract: the arity that it reads is the model's.
+-- Assumes nothing.
+use mathlib.Core.Path.{sym, ap, _∙_}
+use Prim.Native.Nat.{ℕ}
+use Rattle.rules.specs.Model.{modelOf}
+use borrow.Author.Needs.{needs}
+use Rattle.text.proofs.line.coverage_line.Statement.{statement}
+use Rattle.text.proofs.line.coverage_line.Tie as tie
+
+function-of-requires : tie.Need-function-of-requires
+function-of-requires c κs = search needs
+
+arity-requires : tie.Need-arity-requires
+arity-requires c κs = search needs
+
+put-coverage-requires : tie.Need-put-coverage-requires
+put-coverage-requires c κs = search needs
+
+same-length : tie.Need-same-length
+same-length c = search needs
+
+returns : tie.Need-returns
+returns c =
+    let t = c .before .before in
+    let u = t .before .before in
+    let M = modelOf (u .before .before .before .before .args .bundle .now) in
+    t .put-coverage .ensures M (ap (λ (f : ℕ). M .arity f) (sym (u .before .function-of .ensures)) ∙ sym (u .arity .ensures .0))
+
+pub coverage-line-spec : {M : Type 1} → statement M
+coverage-line-spec =
+    tie.close
+    (tie.spec function-of-requires arity-requires put-coverage-requires same-length returns)

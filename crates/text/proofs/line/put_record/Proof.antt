@@ -1,0 +1,55 @@
+-- `text::line::put_record` meets its contract: from number 4 on a layout refusal names a record.
+-- Assumes nothing.
+use Prim.Native.Nat.{_≤_, _<_}
+use native.Mathlib.Omega.{arith}
+use mathlib.Core.Path.{sym}
+use Rattle.layout.specs.Opening.{saidOf}
+use Rattle.curiumtoad.specs.Refusal.{numberOf}
+use Rattle.text.specs.Text.{field, finding}
+use Rattle.text.proofs.Growing.{grown-none}
+use Rattle.text.proofs.Recorded.{record-none, record-one}
+use borrow.Author.Needs.{needs}
+use Rattle.text.proofs.line.put_record.Statement.{statement}
+use Rattle.text.proofs.line.put_record.Tie as tie
+
+number-requires : tie.Need-number-requires
+number-requires c κs = search needs
+
+returns : tie.Need-returns
+unfolding finding
+returns c M =
+    let s = c .before .before .before in
+    let few : numberOf (saidOf (s .args .found)) < 4 = omega (arith, c .before .number .ensures, c .if1 .taken) in
+    rw (record-none (s .args .found) few) (grown-none 32 (s .args .text .now) (s .args .at))
+
+slice-aggregate-put-field : tie.Need-slice-aggregate-put-field
+slice-aggregate-put-field c = search needs
+
+record-requires : tie.Need-record-requires
+record-requires c κs = search needs
+
+put-field-requires : tie.Need-put-field-requires
+put-field-requires c κs = search needs
+
+same-length : tie.Need-same-length
+same-length c = search needs
+
+returns-2 : tie.Need-returns-2
+unfolding finding field
+returns-2 c M =
+    let s = c .before .before .before .before .before .before .before .before .before in
+    let t = c .before .before .before .before .before .before in
+    let many : 4 ≤ numberOf (saidOf (s .args .found)) = omega (arith, t .before .number .ensures, t .if1 .left) in
+    rw (record-one (s .args .found) many, sym (c .before .before .before .«record» .ensures)) (c .before .before .put-field .ensures)
+
+pub put-record-spec : {M : Type 1} → statement M
+put-record-spec =
+    tie.close
+    (tie.spec
+    number-requires
+    returns
+    slice-aggregate-put-field
+    record-requires
+    put-field-requires
+    same-length
+    returns-2)

@@ -1,0 +1,75 @@
+-- "The program reads a bundle from standard input": the text that it prints, for every bundle.
+-- Assumes nothing.
+use Prim.Native.Nat.{ℕ, zero, suc, _+_, _/_, _%_}
+use Prim.Native.String.{String}
+use mathlib.Core.Bool.{cond}
+use mathlib.Core.List.{List, [], _∷_, _++_}
+use lib.Dec.{ltb}
+use lib.ListN.{getD, take, drop}
+use Rattle.rules.specs.Layout.{Answer, gives, refuses, opening, places}
+use Rattle.rules.specs.Model.{Model, modelOf}
+use Rattle.rules.specs.Coverage.{verdictNaming}
+use Rattle.text.specs.Ascii.{ascii}
+
+-- a number of at most so many digits in decimal, without zeros in front
+unfoldable pub digits : ℕ → ℕ → List ℕ
+digits zero n = []
+digits (suc most) n = cond (ltb n 10) ((48 + n) ∷ []) (digits most (n / 10) ++ ((48 + n % 10) ∷ []))
+
+-- twenty digits hold every number of 64 bits
+unfoldable pub decimal : ℕ → List ℕ
+decimal n = digits 20 n
+
+-- a word and a number
+unfoldable pub field : String → ℕ → List ℕ
+field word n = ascii word ++ decimal n
+
+-- "The first line counts records."
+unfoldable pub countsLine : List ℕ → List ℕ
+countsLine counts =
+    field "classes " (getD counts 0 0)
+    ++ field " functions " (getD counts 1 0)
+    ++ field " signatures " (getD counts 2 0)
+    ++ field " methods " (getD counts 3 0)
+    ++ ascii "\n"
+
+-- "the function with its argument classes": each class behind a blank
+unfoldable pub classes : List ℕ → List ℕ
+classes [] = []
+classes (c ∷ cs) = field " " c ++ classes cs
+
+-- "the methods (10 ends after the send; 12 and 13 end as in `method 2`)"
+unfoldable pub methods : List ℕ → List ℕ
+methods [] = []
+methods (m ∷ []) = field " method " m
+methods (m ∷ n ∷ ns) = field " methods " m ++ field " " n
+
+-- The values that come with a number. None: 1 to 3. One: "4 to 9 read `refused 4 record 2`". Two: "Bodies read `refused 14 method 2 at 3`". More: 10 to 13,
+-- "the signature, the function with its argument classes, the methods"; a tuple has a value for each of the layout's places, and as many are printed as
+-- the function has arguments.
+unfoldable pub finding : Model → List ℕ → List ℕ
+finding M [] = []
+finding M (r ∷ []) = field " record " r
+finding M (m ∷ i ∷ []) = field " method " m ++ field " at " i
+finding M (s ∷ f ∷ a ∷ rest) =
+    field " signature " s
+    ++ field " send " f
+    ++ classes (take (M .arity f) (a ∷ rest))
+    ++ methods (drop places (a ∷ rest))
+
+-- "The second is the number" and what comes with it; "an accepted bundle reads `accepted`"
+unfoldable pub refusedLine : Model → ℕ → List ℕ → List ℕ
+refusedLine M number values = field "refused " number ++ finding M values ++ ascii "\n"
+
+unfoldable pub verdictLine : Model → Answer (Unit {0}) → List ℕ
+verdictLine M (gives accepted) = ascii "accepted\n"
+verdictLine M (refuses number values) = refusedLine M number values
+
+-- "For 1 to 9 the first line is missing"
+unfoldable pub listingOn : Answer (List ℕ) → Model → List ℕ → List ℕ
+listingOn (gives counts) M args = countsLine counts ++ verdictLine M (verdictNaming M args)
+listingOn (refuses number values) M args = refusedLine M number values
+
+-- the text for a bundle, with the tuple that a coverage refusal names
+unfoldable pub listingNaming : List ℕ → List ℕ → List ℕ
+listingNaming b args = listingOn (opening b) (modelOf b) args
