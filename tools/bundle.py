@@ -114,6 +114,7 @@ def write(bundle):
 
 
 def hold(kept, number, record=None):
+    """refuses by that number where a rule is not kept"""
     if not kept:
         raise Unopened(number, record)
 
@@ -145,46 +146,54 @@ def cut(section, spans, number):
         yield section[offset:end]
 
 
-def read(data):
-    """The bundle. One that does not open is refused by the first rule that it breaks and the lowest record that breaks it."""
-    sections = sections_of(data)
-    found = records(sections[0], "<BBHH")
-    functions = list(sections[2])
-    found_signatures = records(sections[3], f"B{PLACES}sB")
-    found_methods = records(sections[4], f"<B{PLACES}s{PLACES}sBHH")
-    hold(found, 3)
-    for part, limit in [(found, CLASSES), (functions, FUNCTIONS), (found_signatures, SIGNATURES), (found_methods, METHODS)]:
-        hold(len(part) <= limit, 3)
-
-    classes = []
-    for k, ((kind, zero, *_), above) in enumerate(zip(found, cut(sections[1], [own[2:] for own in found], 4))):
+def read_classes(found, parents):
+    for k, ((kind, zero, *_), above) in enumerate(zip(found, cut(parents, [own[2:] for own in found], 4))):
         rising = all(lower < higher for lower, higher in itertools.pairwise([*above, k]))
         hold(kind <= 1 and zero == 0 and rising and (len(above) > 0) == (k > 0), 4, k)
-        classes.append(Class(kind == 1, list(above)))
+        yield Class(kind == 1, list(above))
+
+
+def read_places(classes, functions, rule, function, result, *triples):
+    """the classes of each triple at the places that the function has; rule: the number and the record that keeps it or not"""
+    hold(function < len(functions) and result < len(classes), *rule)
+    count = functions[function]
+    for triple in triples:
+        hold(all(own < len(classes) for own in triple[:count]) and not any(triple[count:]), *rule)
+        yield list(triple[:count])
+
+
+def read_signatures(found, classes, functions):
+    for k, (function, triple, result) in enumerate(found):
+        yield Signature(function, *read_places(classes, functions, (6, k), function, result, triple), result)
+
+
+def read_methods(found, code, classes, functions):
+    bodies = cut(code, [own[-2:] for own in found], 7)
+    for k, ((function, specialisers, declared, result, *_), body) in enumerate(zip(found, bodies)):
+        hold(len(body) in range(2, 2 * INSTRUCTIONS + 1, 2), 7, k)
+        places = read_places(classes, functions, (7, k), function, result, specialisers, declared)
+        yield Method(function, *places, result, records(body, "BB"))
+
+
+def applies_to(method):
+    return method.function, *method.specialisers
+
+
+def read(data):
+    """The bundle. One that does not open is refused by the first rule that it breaks and the lowest record that breaks it."""
+    class_part, parents, functions, signature_part, method_part, code = sections_of(data)
+    found = records(class_part, "<BBHH"), list(functions), records(signature_part, f"B{PLACES}sB"), records(method_part, f"<B{PLACES}s{PLACES}sBHH")
+    hold(class_part and all(len(part) <= limit for part, limit in zip(found, [CLASSES, FUNCTIONS, SIGNATURES, METHODS])), 3)
+    found_classes, functions, found_signatures, found_methods = found
+    classes = list(read_classes(found_classes, parents))
     for k, count in enumerate(functions):
         hold(count <= PLACES, 5, k)
-
-    def used(function, places, number, record):
-        """the classes at the places that the function has"""
-        count = functions[function]
-        hold(all(own < len(classes) for own in places[:count]) and not any(places[count:]), number, record)
-        return list(places[:count])
-
-    signatures = []
-    for k, (function, places, result) in enumerate(found_signatures):
-        hold(function < len(functions) and result < len(classes), 6, k)
-        signatures.append(Signature(function, used(function, places, 6, k), result))
-    methods = []
-    bodies = cut(sections[5], [own[-2:] for own in found_methods], 7)
-    for k, ((function, specialisers, declared, result, *_), body) in enumerate(zip(found_methods, bodies)):
-        hold(function < len(functions) and result < len(classes), 7, k)
-        hold(len(body) in range(2, 2 * INSTRUCTIONS + 1, 2), 7, k)
-        places = [used(function, own, 7, k) for own in [specialisers, declared]]
-        methods.append(Method(function, *places, result, records(body, "BB")))
+    signatures = list(read_signatures(found_signatures, classes, functions))
+    methods = list(read_methods(found_methods, code, classes, functions))
     earlier = set()
     for k, own in enumerate(methods):
-        hold((own.function, *own.specialisers) not in earlier, 8, k)
-        earlier.add((own.function, *own.specialisers))
+        hold(applies_to(own) not in earlier, 8, k)
+        earlier.add(applies_to(own))
     for k, own in enumerate(methods):
         limits = [functions[own.function], len(classes), len(functions)]
         hold(all(operation < len(limits) and operand < limits[operation] for operation, operand in own.body), 9, k)
@@ -399,10 +408,9 @@ class Numbered:
 def refuse_twins(declared, methods):
     earlier = {}
     for (line, *_), own in zip(declared, methods):
-        applies_to = own.function, *own.specialisers
-        if applies_to in earlier:
-            line.refuse(f"the method of line {earlier[applies_to]} has the same specialisers")
-        earlier[applies_to] = line.number
+        if applies_to(own) in earlier:
+            line.refuse(f"the method of line {earlier[applies_to(own)]} has the same specialisers")
+        earlier[applies_to(own)] = line.number
 
 
 def refuse_length(declared, bundle):
