@@ -33,8 +33,11 @@ def opens(data):
     return vectors.opening(data)[0] == 0
 
 
+DOCUMENTATION = (ROOT / "docs" / "BUNDLE-TEXT.md").read_text()
+
+
 def chart_in_documentation():
-    return re.search(r"```\n(.*?abstract class.*?)```", (ROOT / "docs" / "BUNDLE-TEXT.md").read_text(), re.DOTALL)[1]
+    return re.search(r"```\n(.*?abstract class.*?)```", DOCUMENTATION, re.DOTALL)[1]
 
 
 # Descriptions
@@ -101,7 +104,8 @@ def other_layout(draw, text):
         spaced = words[0]
         for before, word in zip(words, words[1:]):
             spaced += draw.choice([" ", "  ", "\t"] if before[-1].isalnum() or before[-1] == "_" else ["", " "]) + word
-        laid_out += draw.choice(["", "    ", "\t"]) + spaced + draw.choice(["", " ", "# send x", " # (->"]) + draw.choice(["\n", "\r\n", "\n\n", "\n#\n"])
+        laid_out += draw.choice(["", "    ", "\t"]) + spaced
+        laid_out += draw.choice(["", " ", "# send x", " # (->"]) + draw.choice(["\n", "\r\n", "\n\n", "\n#\n"])
     return laid_out
 
 
@@ -460,7 +464,9 @@ class Explain(unittest.TestCase):
         self.assertEqual((caught.exception.line, caught.exception.reason), (None, "the listing has no line"))
 
     def test_chart_3(self):
-        self.assertEqual(bundle.Explained(*bundle.parse(CHART)).text(listing("chart-3")), (
+        explained = bundle.Explained(*bundle.parse(CHART)).text(listing("chart-3"))
+        self.assertIn(f"```\n{explained}```", DOCUMENTATION)
+        self.assertEqual(explained, (
             "8 classes, 1 function, 1 signature, 3 methods\n"
             "refused: arm(Lapsed, SharedBench) is ambiguous between method 0 arm(Session, SharedBench) and method 1 arm(Lapsed, Bench), "
             "for signature 0 arm(Session, Bench) -> Outcome\n"))
