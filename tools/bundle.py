@@ -591,6 +591,9 @@ class Explained:
             raise Refused(None, f"signature {signature} of the text is of another function, or of other arguments, than the send")
         sent = self.shown.send(function, [self.present("class", self.bundle.classes, k) for k in classes])
         found = [self.a_method(method) for method in methods]
+        for method in methods:
+            if self.bundle.methods[method].function != function:
+                raise Refused(None, f"method {method} of the text is of another function than the send")
         if number == 10:
             return f"refused: {sent} finds no method, {covering}"
         if number == 11:

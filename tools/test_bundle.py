@@ -374,10 +374,12 @@ method tick() -> Any
     send arm
 method arm(Session, Any : Session) -> Any
     arg x
+method arm(Any, Session) -> Session
+    arg y
 """
 SIGNATURE = "for signature 0 arm(Session, Any) -> Session"
 LINES = [
-    ("classes 3 functions 2 signatures 2 methods 2", "3 classes, 2 functions, 2 signatures, 2 methods"),
+    ("classes 3 functions 2 signatures 2 methods 3", "3 classes, 2 functions, 2 signatures, 3 methods"),
     ("accepted", "accepted"),
     ("refused 1", "refused: fewer than 24 or more than 65535 bytes"),
     ("refused 2", "refused: the directory is wrong, or a section holds no whole records, or there is code without methods"),
@@ -391,8 +393,8 @@ LINES = [
     ("refused 10 signature 0 send 0 1 0", f"refused: arm(Session, Any) finds no method, {SIGNATURE}"),
     ("refused 10 signature 1 send 1", "refused: tick() finds no method, for signature 1 tick() -> Any"),
     (
-        "refused 11 signature 0 send 0 1 0 methods 1 0",
-        f"refused: arm(Session, Any) is ambiguous between method 1 arm(Session, Any : Session) and method 0 tick(), {SIGNATURE}"),
+        "refused 11 signature 0 send 0 1 1 methods 1 2",
+        f"refused: arm(Session, Session) is ambiguous between method 1 arm(Session, Any : Session) and method 2 arm(Any, Session), {SIGNATURE}"),
     (
         "refused 12 signature 0 send 0 1 0 method 1",
         f"refused: arm(Session, Any) finds method 1 arm(Session, Any : Session), whose declared classes do not hold the arguments, {SIGNATURE}"),
@@ -411,7 +413,7 @@ LINES = [
 NO_LINE = "this is no line of a listing"
 OTHER_FUNCTION = "signature 0 of the text is of another function, or of other arguments, than the send"
 UNEXPLAINED = [
-    ("classes 4 functions 2 signatures 2 methods 2", "the text has other counts, so the listing is of another bundle"),
+    ("classes 4 functions 2 signatures 2 methods 3", "the text has other counts, so the listing is of another bundle"),
     ("classes 3 functions 2 signatures 2", NO_LINE),
     ("", NO_LINE),
     ("Accepted", NO_LINE),
@@ -429,12 +431,14 @@ UNEXPLAINED = [
     ("refused 4 record 3", "the text has no class 3"),
     ("refused 5 record 2", "the text has no function 2"),
     ("refused 6 record 2", "the text has no signature 2"),
-    ("refused 7 record 2", "the text has no method 2"),
+    ("refused 7 record 3", "the text has no method 3"),
     ("refused 10 signature 2 send 0 1 0", "the text has no signature 2"),
     ("refused 10 signature 0 send 0 1 3", "the text has no class 3"),
     ("refused 10 signature 0 send 1", OTHER_FUNCTION),
     ("refused 10 signature 0 send 0 1", OTHER_FUNCTION),
-    ("refused 12 signature 0 send 0 1 0 method 2", "the text has no method 2"),
+    ("refused 12 signature 0 send 0 1 0 method 3", "the text has no method 3"),
+    ("refused 11 signature 0 send 0 1 1 methods 0 1", "method 0 of the text is of another function than the send"),
+    ("refused 13 signature 0 send 0 1 1 method 0", "method 0 of the text is of another function than the send"),
     ("refused 14 method 0 at 0", "14 is no refusal of what the text has at 0 in method 0 tick()"),
     ("refused 15 method 0 at 2", "15 is no refusal of what the text has at 2 in method 0 tick()"),
     ("refused 16 method 0 at 0", "16 is no refusal of what the text has at 0 in method 0 tick()"),
