@@ -1,7 +1,8 @@
 #!/usr/bin/env python3
-"""Make the sample bundles: the files of this folder and, for those that the worked cases use, their byte lists in crates/rules/specs/Samples.antt.
+"""Make the sample bundles: the files of this folder, the table of its README.md and, for those that the worked cases use, their byte lists in
+crates/rules/specs/Samples.antt.
 
-usage: bundles/make.py          write both
+usage: bundles/make.py          write them
        bundles/make.py --check  write nothing; say which differ, and exit with 1 if any does
 """
 import pathlib
@@ -9,7 +10,13 @@ import struct
 import sys
 
 HERE = pathlib.Path(__file__).resolve().parent
-LISTS = HERE.parent / "crates" / "rules" / "specs" / "Samples.antt"
+ROOT = HERE.parent
+sys.dont_write_bytecode = True
+sys.path.insert(0, str(ROOT / "tools"))
+from made import write_or_check  # noqa: E402
+
+LISTS = ROOT / "crates" / "rules" / "specs" / "Samples.antt"
+TABLE = HERE / "README.md"
 PLACES = 3
 ARG, NEW, SEND = 0, 1, 2
 
@@ -32,7 +39,12 @@ def bundle(classes, arities=(), signatures=(), methods=()):
         method_records += bytes([f]) + padded(specialisers) + padded(declared) + bytes([result])
         method_records += struct.pack("<HH", len(code), len(body))
         code += body
-    directory, offset, sections = b"", 24, [class_records, parents, bytes(arities), signature_records, method_records, code]
+    return joined(class_records, parents, bytes(arities), signature_records, method_records, code)
+
+
+def joined(*sections):
+    """the sections behind their directory"""
+    directory, offset = b"", 24
     for section in sections:
         directory += struct.pack("<HH", offset, len(section))
         offset += len(section)
@@ -43,6 +55,7 @@ ABSTRACT, CONCRETE = 0, 1
 CHART = [(ABSTRACT, []), (CONCRETE, [0]), (CONCRETE, [1]), (CONCRETE, [0]), (CONCRETE, [3]), (ABSTRACT, [0]), (CONCRETE, [5]), (CONCRETE, [5])]
 CHART_METHODS = [(0, args, args, result, [(NEW, result)]) for args, result in [([1, 4], 6), ([2, 3], 7), ([1, 3], 6), ([2, 4], 7)]]
 
+# The samples that the worked cases and the test programs use.
 SAMPLES = {
     "chart-3": bundle(CHART, [2], [(0, [1, 3], 5)], CHART_METHODS[:3]),
     "chart-4": bundle(CHART, [2], [(0, [1, 3], 5)], CHART_METHODS),
@@ -71,6 +84,148 @@ SAMPLES = {
 }
 
 
+ALONE = [(CONCRETE, [])]
+CLASS = bytes([CONCRETE, 0, 0, 0, 0, 0])
+
+# One for each number that those above leave out, and for the sizes that document 01 names.
+FURTHER = {
+    "128-classes": bundle(ALONE + [(CONCRETE, [0])] * 127),
+    "23-bytes": bundle([])[:23],
+    # The byte after the class belongs to no section.
+    "directory-gap": struct.pack("<12H", 24, 6, *[31, 0] * 5) + CLASS + b"\0",
+    "part-of-a-class": joined(CLASS + b"\0", b"", b"", b"", b"", b""),
+    "code-without-methods": joined(CLASS, b"", b"", b"", b"", bytes([NEW, 0])),
+    "empty-sections": bundle([]),
+    "129-classes": bundle(ALONE + [(CONCRETE, [0])] * 128),
+    "own-parent": bundle(ALONE + [(CONCRETE, [1])]),
+    "two-roots": bundle(ALONE + [(CONCRETE, [])]),
+    "leftover-parent": joined(CLASS + bytes([CONCRETE, 0, 0, 0, 1, 0]), bytes([0, 0]), b"", b"", b"", b""),
+    "four-arguments": bundle(ALONE, [3, 4]),
+    "absent-result": bundle(ALONE, [0], [(0, [], 1)]),
+    "unused-place-filled": bundle(ALONE + [(CONCRETE, [0])], [1], [(0, [0, 1], 0)], [(0, [0], [0], 0, [(ARG, 0)])]),
+    "empty-body": bundle(ALONE, [0], [(0, [], 0)], [(0, [], [], 0, [])]),
+    "absent-specialiser": bundle(ALONE, [1], [], [(0, [1], [0], 0, [(NEW, 0)])]),
+    "twin-methods": bundle(ALONE, [1], [], [(0, [0], [0], 0, [(ARG, 0)]), (0, [0], [0], 0, [(NEW, 0)])]),
+    "unknown-operation": bundle(ALONE, [0], [(0, [], 0)], [(0, [], [], 0, [(3, 0)])]),
+    "absent-argument": bundle(ALONE, [1], [(0, [0], 0)], [(0, [0], [0], 0, [(ARG, 1)])]),
+    "no-method": bundle(ALONE, [0], [(0, [], 0)]),
+    "uncovered-class": bundle(
+        [(ABSTRACT, []), (CONCRETE, [0]), (CONCRETE, [0])], [1], [(0, [0], 0)], [(0, [1], [1], 0, [(ARG, 0)])]),
+    # The signature's classes have no class under them, so that one send alone is covered.
+    "three-argument-tie": bundle(
+        ALONE + [(CONCRETE, [0])], [3], [(0, [1, 1, 1], 0)], [(0, args, args, 0, [(ARG, 0)]) for args in [[0, 1, 1], [1, 1, 0]]]),
+    "missing-argument": bundle(
+        ALONE, [1, 0], [(0, [0], 0), (1, [], 0)], [(0, [0], [0], 0, [(ARG, 0)]), (1, [], [], 0, [(SEND, 0)])]),
+}
+
+# What each sample is, and the lines that the listing program has to print for it. They are written down from document 01 and not worked out by any
+# program. No refused sample has a second broken tuple, so the one that is named is determined.
+SHOWN = {
+    "chart-3": (
+        "refused by 11: two methods apply to (2, 4) and neither leads",
+        ["classes 8 functions 1 signatures 1 methods 3", "refused 11 signature 0 send 0 2 4 methods 0 1"]),
+    "chart-4": (
+        "accepted: a fourth method settles that send",
+        ["classes 8 functions 1 signatures 1 methods 4", "accepted"]),
+    "chart-5": (
+        "accepted: a second, narrower signature of the same function",
+        ["classes 8 functions 1 signatures 2 methods 4", "accepted"]),
+    "loop": (
+        "accepted: a method that sends its own function",
+        ["classes 1 functions 1 signatures 1 methods 1", "accepted"]),
+    "one-class": (
+        "accepted: the smallest bundle, one class and nothing else",
+        ["classes 1 functions 0 signatures 0 methods 0", "accepted"]),
+    "128-classes": (
+        "accepted: as many classes as there may be",
+        ["classes 128 functions 0 signatures 0 methods 0", "accepted"]),
+    "abstract-argument": (
+        "accepted: the signature's own class is abstract, so it is no argument",
+        ["classes 2 functions 1 signatures 1 methods 1", "accepted"]),
+    "23-bytes": (
+        "refused by 1: a byte short of a directory",
+        ["refused 1"]),
+    "directory-gap": (
+        "refused by 2: the parents begin a byte after the classes end",
+        ["refused 2"]),
+    "part-of-a-class": (
+        "refused by 2: the classes have a byte that makes no record",
+        ["refused 2"]),
+    "code-without-methods": (
+        "refused by 2: an instruction and no method that has it",
+        ["refused 2"]),
+    "empty-sections": (
+        "refused by 3: six empty sections, so there is no class",
+        ["refused 3"]),
+    "129-classes": (
+        "refused by 3: one class too many",
+        ["refused 3"]),
+    "own-parent": (
+        "refused by 4: class 1 is its own parent",
+        ["refused 4 record 1"]),
+    "two-roots": (
+        "refused by 4: class 1 has no parent",
+        ["refused 4 record 1"]),
+    "leftover-parent": (
+        "refused by 4: the parents section goes on after the last class's list",
+        ["refused 4 record 1"]),
+    "four-arguments": (
+        "refused by 5: function 1 has four arguments",
+        ["refused 5 record 1"]),
+    "absent-result": (
+        "refused by 6: the signature's result class is not there",
+        ["refused 6 record 0"]),
+    "unused-place-filled": (
+        "refused by 6: a signature of one argument names a class for the second",
+        ["refused 6 record 0"]),
+    "empty-body": (
+        "refused by 7: the method has no instruction",
+        ["refused 7 record 0"]),
+    "absent-specialiser": (
+        "refused by 7: the method's specialiser is not there",
+        ["refused 7 record 0"]),
+    "twin-methods": (
+        "refused by 8: two methods of one function have equal specialisers",
+        ["refused 8 record 1"]),
+    "unknown-operation": (
+        "refused by 9: the body has operation 3",
+        ["refused 9 record 0"]),
+    "absent-argument": (
+        "refused by 9: ARG of a second argument, where the function has one",
+        ["refused 9 record 0"]),
+    "no-method": (
+        "refused by 10: a signature without arguments, and no method at all",
+        ["classes 1 functions 1 signatures 1 methods 0", "refused 10 signature 0 send 0"]),
+    "uncovered-class": (
+        "refused by 10: no method applies to one of the two concrete classes",
+        ["classes 3 functions 1 signatures 1 methods 1", "refused 10 signature 0 send 0 2"]),
+    "three-argument-tie": (
+        "refused by 11: one method is more special at the first argument, the other at the last",
+        ["classes 2 functions 1 signatures 1 methods 2", "refused 11 signature 0 send 0 1 1 1 methods 0 1"]),
+    "narrow-declared": (
+        "refused by 12: the method found declares a narrower class than it applies to",
+        ["classes 2 functions 1 signatures 1 methods 1", "refused 12 signature 0 send 0 0 method 0"]),
+    "wide-result": (
+        "refused by 13: the method's result class is not under the signature's",
+        ["classes 2 functions 1 signatures 1 methods 1", "refused 13 signature 0 send 0 method 0"]),
+    "two-values": (
+        "refused by 14: the body ends with two values",
+        ["classes 1 functions 1 signatures 1 methods 1", "refused 14 method 0 at 2"]),
+    "missing-argument": (
+        "refused by 14: a send takes one argument and there is none",
+        ["classes 1 functions 2 signatures 2 methods 2", "refused 14 method 1 at 0"]),
+    "abstract-new": (
+        "refused by 15: NEW of an abstract class",
+        ["classes 2 functions 1 signatures 1 methods 1", "refused 15 method 0 at 0"]),
+    "no-licence": (
+        "refused by 16: no signature licenses the send",
+        ["classes 2 functions 2 signatures 2 methods 2", "refused 16 method 0 at 1"]),
+    "loose-result": (
+        "refused by 17: the body's value need not be of the result class",
+        ["classes 2 functions 1 signatures 1 methods 1", "refused 17 method 0 at 1"]),
+}
+
+
 def lists():
     text = "-- The sample bundles that the worked cases use, byte by byte. Made by bundles/make.py, with the files of that folder.\n"
     text += "-- Assumes nothing.\nuse Prim.Native.Nat.{ℕ}\nuse mathlib.Core.List.{List, [], _∷_}\n"
@@ -82,16 +237,29 @@ def lists():
     return text
 
 
+def listed(name):
+    """what the listing program has to print for a sample"""
+    return "".join(line + "\n" for line in SHOWN[name][1])
+
+
+def table():
+    """README.md with its table made anew: the prose before it is kept"""
+    prose, head, _ = TABLE.read_text().partition("| bundle |")
+    rows = [f"{head} what it is | what the listing program prints |", "|---|---|---|"]
+    for name, (what, lines) in SHOWN.items():
+        rows.append(f"| `{name}` | {what} | " + "<br>".join(f"`{line}`" for line in lines) + " |")
+    return prose + "\n".join(rows) + "\n"
+
+
 def main():
-    wanted = {HERE / f"{name}.bundle": content for name, content in SAMPLES.items()}
-    wanted[LISTS] = lists().encode()
-    if "--check" in sys.argv[1:]:
-        differing = [path for path, content in wanted.items() if not path.exists() or path.read_bytes() != content]
-        for path in differing:
-            print(f"differs: {path.relative_to(HERE.parent)}")
-        sys.exit(1 if differing else 0)
-    for path, content in wanted.items():
-        path.write_bytes(content)
+    samples = {**SAMPLES, **FURTHER}
+    assert samples.keys() == SHOWN.keys(), "each sample is in the table of what is shown, and nothing else is"
+    wanted = {LISTS: lists().encode(), TABLE: table().encode()}
+    for name, content in samples.items():
+        wanted[HERE / f"{name}.bundle"] = content
+        wanted[HERE / f"{name}.listing"] = listed(name).encode()
+    found = [path for path in HERE.iterdir() if path.suffix in (".bundle", ".listing")]
+    sys.exit(write_or_check(ROOT, wanted, "--check" in sys.argv[1:], found))
 
 
 if __name__ == "__main__":

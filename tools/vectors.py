@@ -17,6 +17,7 @@ ROOT = pathlib.Path(__file__).resolve().parent.parent
 sys.dont_write_bytecode = True
 sys.path.insert(0, str(ROOT / "bundles"))
 import make  # noqa: E402
+from made import write_or_check  # noqa: E402
 
 LONGEST = 65535
 CLASSES, FUNCTIONS, SIGNATURES, METHODS, PLACES = 128, 64, 256, 512, 3
@@ -669,13 +670,7 @@ def main():
         crate = ROOT / "crates" / f"{name.replace(' ', '_')}_cases"
         wanted[crate / "stdin"] = stream
         wanted[crate / "stdout"] = f"{name} cases {count} differing 0\n".encode()
-    if "--check" in sys.argv[1:]:
-        differing = [path for path, content in wanted.items() if not path.exists() or path.read_bytes() != content]
-        for path in differing:
-            print(f"differs: {path.relative_to(ROOT)}")
-        sys.exit(1 if differing else 0)
-    for path, content in wanted.items():
-        path.write_bytes(content)
+    sys.exit(write_or_check(ROOT, wanted, "--check" in sys.argv[1:]))
 
 
 if __name__ == "__main__":
