@@ -24,6 +24,8 @@ CLASSES, FUNCTIONS, SIGNATURES, METHODS, PLACES = 128, 64, 256, 512, 3
 ABSENT, SHORT, SHORT_ROW = 18, 19, 20
 # The ends of a run that fails nowhere have no numbers in document 01. The test program gives them these.
 ENDS = {"value": 32, "spent": 33, "deep": 34}
+# Nor has a buffer that is too short for a listing.
+SHORT_TEXT = 35
 MATRIX = 16384
 # The scratch of a call is longer than the matrix, so that a byte written past it shows.
 SCRATCH = 17000
@@ -586,6 +588,20 @@ def witness_cases(folder):
         yield bundle, [rowless(*call) for call in calls]
 
 
+def listing_cases(folder):
+    """(bundle, [(scratch, numbers, count, beside, number, values, row afterwards)]): the row is the buffer for the text"""
+    texts = [(bundle, entry["listing"].encode()) for entry, bundle in vectors(folder, "check.jsonl")]
+    texts += [(path.read_bytes(), path.with_suffix(".listing").read_bytes()) for path in sorted((ROOT / "bundles").glob("*.bundle"))]
+    # Input of any length beyond the longest is refused like a bundle of one byte more.
+    texts += [(bytes(LONGEST + 1), b"refused 1\n"), (b"", b"refused 1\n")]
+    for bundle, text in texts:
+        longer = text + filled_row(ROW)[len(text):]
+        yield bundle, [
+            (SCRATCH, [0, 0, 0, 0], 0, 0, *answer)
+            for answer in [(0, [len(text)], longer), (0, [len(text)], text), (SHORT_TEXT, [], filled_row(len(text) - 1))]
+        ]
+
+
 def rowless(scratch, numbers, count, beside, number, values):
     """a call that is lent no row"""
     return scratch, numbers, count, beside, number, values, b""
@@ -626,14 +642,14 @@ def lookup_stream(folder):
     return stream, count
 
 
-def call_stream(cases):
-    """cases: (bundle, [(scratch, numbers, count, beside, number, values, row afterwards)])"""
+def call_stream(cases, opens=True):
+    """cases: (bundle, [(scratch, numbers, count, beside, number, values, row afterwards)]); opens: the call answers by the number of its opening"""
     stream, count_of_calls = [], 0
     for bundle, calls in cases:
         opened = opening(bundle)
         stream += little_endian(3, len(bundle)), bundle, little_endian(2, len(calls))
         for scratch, numbers, count, beside, number, values, row in calls:
-            if opened[0] or 0 < number < 10:
+            if opens and (opened[0] or 0 < number < 10):
                 held(bundle, (number, values), opened)
             stream += little_endian(2, scratch, len(row), *numbers), little_endian(4, count, beside), expected(number, values), row
             count_of_calls += 1
@@ -666,10 +682,14 @@ def main():
         ("check", call_stream(check_cases(folder))),
         ("send type", call_stream(send_type_cases(folder))),
         ("witness", call_stream(witness_cases(folder))),
+        ("listing", call_stream(listing_cases(folder), opens=False)),
     ]:
         crate = ROOT / "crates" / f"{name.replace(' ', '_')}_cases"
         wanted[crate / "stdin"] = stream
         wanted[crate / "stdout"] = f"{name} cases {count} differing 0\n".encode()
+    # The program itself is run on one of the samples.
+    for name, ending in [("stdin", ".bundle"), ("stdout", ".listing")]:
+        wanted[ROOT / "crates" / "listing" / name] = (ROOT / "bundles" / "chart-3").with_suffix(ending).read_bytes()
     sys.exit(write_or_check(ROOT, wanted, "--check" in sys.argv[1:]))
 
 

@@ -1,10 +1,11 @@
-// The cases of the calls that take scratch, for a test program for each: run, check, send type and witness check. All that such a program does is
-// here, and it names the entry point.
+// The cases of calls, for a test program for each: run, check, send type, witness check, and the listing. All that such a program does is here, and it
+// names the entry point. A listing takes no scratch, and its buffer is the row.
 //
 // After its bundle a case has the number of calls, two bytes, and then the calls, each with its expected answer. A call is the length of the scratch
 // and of the row that are lent, four numbers, two bytes each, and the step count, four bytes; an entry point takes as many of these as it asks for.
 // The answer is the number beside it, four bytes, and then as Answer has it. Last comes the row as the call has to leave it. The tally counts calls.
 use crate::noted::Noted;
+use crate::noted::of_listing;
 use crate::noted::of_run;
 use crate::noted::of_send_type;
 use crate::noted::of_verdict;
@@ -17,6 +18,7 @@ use curiumtoad::run::run;
 use curiumtoad::send_type::send_type;
 use curiumtoad::witness::witness;
 use second_lookup::scratch;
+use text::listing::listing;
 
 // The entry point that a program is for.
 pub enum Entry {
@@ -24,6 +26,7 @@ pub enum Entry {
     Check,
     SendType,
     Witness,
+    Listing,
 }
 
 // What is lent, and what is asked.
@@ -88,6 +91,7 @@ impl Call {
                 self.n2,
                 self.n3,
             )),
+            Entry::Listing => of_listing(listing(bundle, row)),
         }
     }
 }
@@ -132,9 +136,17 @@ fn is_expected_row(row: &[u8]) -> bool {
     is_next(row, &mut expected)
 }
 
+// Whether a call of the entry point with the expected answer leaves the scratch as it was.
+fn leaves_scratch(entry: Entry, expected: Answer) -> bool {
+    if let Entry::Listing = entry {
+        return true;
+    }
+    crate::leaves_scratch(expected)
+}
+
 // Whether the scratch is as a call with the expected answer leaves it.
-fn is_left(bundle: &[u8], scratch: &[u8], expected: Answer) -> bool {
-    if crate::leaves_scratch(expected) {
+fn is_left(entry: Entry, bundle: &[u8], scratch: &[u8], expected: Answer) -> bool {
+    if leaves_scratch(entry, expected) {
         return scratch::is_untouched(scratch, 0);
     }
     scratch::is_matrix(bundle, scratch)
@@ -167,7 +179,7 @@ fn run_call(
         &mut row[..row_len],
     );
     let is_row = is_expected_row(&row[..row_len]);
-    let is_scratch = is_left(bundle, scratch, expected.answer);
+    let is_scratch = is_left(entry, bundle, scratch, expected.answer);
     let is_same = is_row && is_scratch && got.is_same(expected);
     if !is_same {
         print_differs(tally, got, is_row, is_scratch);

@@ -12,6 +12,7 @@ use curiumtoad::witness::CoverageFinding;
 use curiumtoad::witness::WitnessAnswer;
 use machine::ending::Ending;
 use machine::ending::Outcome;
+use text::listing::ListingAnswer;
 
 // An answer and the number beside it: the signature of 10 to 13, the steps of a run, else 0.
 pub struct Noted {
@@ -154,5 +155,13 @@ pub fn of_witness(answer: WitnessAnswer) -> Noted {
         WitnessAnswer::Holds => plain(Answer::alone(0)),
         WitnessAnswer::Fails(found) => of_coverage(found),
         WitnessAnswer::Refused(refusal) => plain(of_refusal(refusal)),
+    }
+}
+
+// A listing has no numbers in document 01 either. Here it is 0 with the length of the text, and 35 where the buffer is too short.
+pub fn of_listing(answer: ListingAnswer) -> Noted {
+    match answer {
+        ListingAnswer::Written(n) => plain(Answer::with_value(0, n)),
+        ListingAnswer::Short => plain(Answer::alone(35)),
     }
 }

@@ -5,8 +5,8 @@ use native.Mathlib.Omega.{arith}
 use mathlib.Core.Path.{_≡_, refl, sym, ap, subst, _∙_}
 use mathlib.Core.List.{List, [], _∷_, _++_}
 use mathlib.Core.Option.{Option, none, some}
-use lib.ListN.{length, getD, take, drop}
-use lib.Seq.{length-take-le}
+use lib.ListN.{length, getD, take, drop, length-append}
+use lib.Seq.{length-take-le, take-length}
 use Rattle.rules.specs.Layout.{Answer, gives, refuses, opening, require}
 use Rattle.rules.specs.Model.{Model, Wellformed, modelOf}
 use Rattle.rules.specs.Types.{Typing, typed, breaks, typeBody}
@@ -26,10 +26,11 @@ use Rattle.curiumtoad.specs.declared.check.Verdict.the-variants as verdict
 use Rattle.curiumtoad.specs.Refusal.{numberOf, valuesOf}
 use Rattle.curiumtoad.specs.Said.{coverageSaid, verdictSaid}
 use Rattle.curiumtoad.specs.Checked.{Checks}
+use Rattle.text.specs.declared.listing.ListingAnswer as listing-type
 use Rattle.text.specs.declared.listing.ListingAnswer.the-variants as listing
 use Rattle.text.specs.Text.{countsLine, verdictLine, listingOn, listingNaming}
 use Rattle.text.specs.Appended.{Appended}
-use Rattle.text.specs.Listed.{functionOf, Named, OpenedAs, Composed, Lists, layoutLine}
+use Rattle.text.specs.Listed.{functionOf, Named, OpenedAs, Composed, Written, Lists, layoutLine}
 use Rattle.text.proofs.Growing.{grown-both}
 
 -- how many values come with a number, and the second of them
@@ -146,11 +147,25 @@ composed-length {b} {own} {r} c = ap length (sym (c .written)) ∙ length-take-l
 pub listed-short : (b own old : List ℕ) (r : ℕ) → Composed b own r → length old < r → Lists b old old listing.Short
 listed-short b own old r c h = record { args = c .args; names = c .names; written = (omega (arith, h, composed-length c), refl) }
 
-pub listed-written : (b own old new : List ℕ) (r : ℕ) → Composed b own r → r ≤ length old → new ≡ take r own ++ drop r old → Lists b old new (listing.Written r)
+pub listed-written : (b own old new : List ℕ) (r : ℕ) → Composed b own r → r ≤ length old
+    → new ≡ take (length (take r own)) (take r own) ++ drop (length (take r own)) old → Lists b old new (listing.Written r)
 listed-written b own old new r c h e =
     let n = composed-length c in
+    let all : take (length (take r own)) (take r own) ≡ listingNaming b (c .args) = take-length (take r own) ∙ c .written in
     record {
       args = c .args;
       names = c .names;
-      written = (sym n, omega (arith, h, n), e ∙ ap (λ (t : List ℕ). t ++ drop r old) (c .written) ∙ ap (λ (k : ℕ). listingNaming b (c .args) ++ drop k old) (sym n));
+      written = (
+        sym n,
+        omega (arith, h, n),
+        e
+            ∙ ap (λ (t : List ℕ). t ++ drop (length (take r own)) old) all
+            ∙ ap (λ (t : List ℕ). listingNaming b (c .args) ++ drop (length t) old) (c .written),
+      );
     }
+
+-- what is written is within the buffer
+pub written-within : {b old new : List ℕ} {n : ℕ} {r : listing-type.ListingAnswer} → r ≡ listing.Written n → Lists b old new r → n ≤ length new
+written-within {b} {old} {new} {n} e l =
+    let w : Written (listingNaming b (l .args)) old new (listing.Written n) = subst (Written (listingNaming b (l .args)) old new) e (l .written) in
+    omega (arith, w .0, ap length (w .2), length-append (listingNaming b (l .args)) (drop (length (listingNaming b (l .args))) old))

@@ -1,12 +1,12 @@
 -- Text that grows: one piece after another.
 -- Assumes nothing.
-use Prim.Native.Nat.{ℕ, suc, _+_, _≤_, _<_}
+use Prim.Native.Nat.{ℕ, _+_, _≤_, _<_}
 use native.Mathlib.Omega.{arith}
 use native.Mathlib.Numerals.{add-one}
 use mathlib.Core.Path.{_≡_, refl, sym, ap, subst, _∙_}
 use mathlib.Core.List.{List, [], _∷_, _++_, append-nil, append-assoc}
-use lib.ListN.{length, take, drop, set, getD, length-set}
-use lib.Seq.{take-suc, take-suc-set, paste, paste-suc}
+use lib.ListN.{length, take, set, getD, length-set}
+use lib.Seq.{take-suc, take-suc-set}
 use Rattle.text.specs.Text.{field, classes}
 use Rattle.text.specs.Appended.{Appended}
 
@@ -45,17 +45,6 @@ grown-copied old text word at i h l a =
     grown-as piece
     (subst (λ (r : ℕ). Appended (i + 1) old at (take i word ++ (getD word i 0 ∷ [])) (set text (at + i) (getD word i 0)) r) e
     (grown-both a (grown-byte text (at + i) (getD word i 0) h)))
-
--- a copy to the start of a list: one byte more, and what it comes to
-pub pasted : (to from : List ℕ) (i : ℕ) → i < length to → i < length from → set (paste to 0 from i) i (getD from i 0) ≡ paste to 0 from (i + 1)
-pasted to from i h l =
-    let e : 0 + i ≡ i = omega arith in
-    rw (add-one i) (subst (λ (k : ℕ). set (paste to 0 from i) k (getD from i 0) ≡ paste to 0 from (suc i)) e (paste-suc to 0 from i 0 (omega arith) l))
-
-pub pasted-start : (to from : List ℕ) (n : ℕ) → paste to 0 from n ≡ take n from ++ drop n to
-pasted-start to from n =
-    let e : 0 + n ≡ n = omega arith in
-    ap (λ (k : ℕ). take n from ++ drop k to) e
 
 -- the classes of two lists, one after the other
 pub classes-both : (xs ys : List ℕ) → classes (xs ++ ys) ≡ classes xs ++ classes ys

@@ -64,6 +64,11 @@ abbrev pub Written : List ℕ → List ℕ → List ℕ → listing-type.Listing
 Written text old new (listing.Written n) = (n ≡ length text) × (length text ≤ length old) × (new ≡ text ++ drop (length text) old)
 Written text old new listing.Short = (length old < length text) × (new ≡ old)
 
+-- the buffer was long enough
+abbrev pub Told : listing-type.ListingAnswer → Type 0
+Told (listing.Written n) = Unit {0}
+Told listing.Short = ⊥
+
 -- The promise of the listing: the text for the bundle, with some tuple that the check may name, is in the buffer.
 pub record Lists (b : List ℕ) (old new : List ℕ) (r : listing-type.ListingAnswer) : Type 0 where
   pub args : List ℕ

@@ -2,17 +2,17 @@
 use crate::line::counts_line;
 use crate::line::layout_line;
 use crate::line::verdict_line;
+use bytes::copy;
 use curiumtoad::check::check;
 use curiumtoad::opening::open;
 use dispatch::matrix::BYTES;
 use layout::bundle::Bundle;
 use layout::finding::Opening;
 ghost use mathlib.Core.Path.{_≡_};
-ghost use mathlib.Core.List.{_++_};
 ghost use Prim.Native.Nat.{_≤_};
-ghost use lib.ListN.{length, take, drop};
+ghost use lib.ListN.{length};
 ghost use Rattle.rules.specs.Calls.{scratchBytes};
-ghost use Rattle.text.specs.Listed.{OpenedAs, Composed, Lists};
+ghost use Rattle.text.specs.Listed.{OpenedAs, Composed, Told, Lists};
 
 // The text is at the start of the buffer, so many bytes; or the buffer is too short, and untouched.
 pub enum ListingAnswer {
@@ -58,21 +58,9 @@ fn compose(bundle: &[u8], text: &mut [u8]) -> usize
     }
 }
 
-// Copies the first n bytes.
-fn copy(from: &[u8], n: usize, to: &mut [u8])
-    requires { ⌜ n ≤ length (now from) ⌝ }
-    requires { ⌜ n ≤ length (now to) ⌝ }
-    ensures { λ _. ⌜ now (to .exit) ≡ take n (now (from .entry)) ++ drop n (now (to .entry)) ⌝ }
-{
-    let mut i = 0;
-    while i < n {
-        to[i] = from[i];
-        i += 1;
-    }
-}
-
-// Writes the listing of a bundle to the start of the buffer.
+// Writes the listing of a bundle to the start of the buffer. 512 bytes are enough for any.
 pub fn listing(bundle: &[u8], text: &mut [u8]) -> ListingAnswer
+    ensures { λ r. ⌜ (512 ≤ length (now (text .entry)) → Told r) ⌝ }
     ensures { λ r. ⌜ Lists (now (bundle .entry)) (now (text .entry)) (now (text .exit)) r ⌝ }
 {
     let mut own = room();
@@ -80,6 +68,6 @@ pub fn listing(bundle: &[u8], text: &mut [u8]) -> ListingAnswer
     if text.len() < n {
         return ListingAnswer::Short;
     }
-    copy(&own, n, text);
+    copy(&own[..n], text);
     ListingAnswer::Written(n)
 }

@@ -1,7 +1,10 @@
 -- `text::listing::listing` meets its contract: the text is composed in an array of its own, and copied where it fits.
 -- Assumes nothing.
-use Rattle.text.proofs.Composing.{listed-short, listed-written}
+use native.Mathlib.Omega.{arith}
+use mathlib.Core.Path.{sym}
+use lib.Seq.{length-take-le}
 use borrow.Author.Needs.{needs}
+use Rattle.text.proofs.Composing.{listed-short, listed-written}
 use Rattle.text.proofs.listing.listing.Statement.{statement}
 use Rattle.text.proofs.listing.listing.Tie as tie
 
@@ -17,14 +20,25 @@ compose-requires c κs = search needs
 returns : tie.Need-returns
 returns c =
     let u = c .before .before in
-    let s = u .before .before .before .before .before in
-    listed-short (s .args .bundle .now) _ (s .args .text .now) _ (u .compose .ensures .0) (c .if1 .taken)
+    let v = u .before .before in
+    let s = v .before .before .before in
+    let composed = u .compose .ensures in (
+      λ h. omega (arith, h, c .if1 .taken, composed .0 .fits, composed .1, v .room .ensures),
+      listed-short (s .args .bundle .now) _ (s .args .text .now) _ (composed .0) (c .if1 .taken),
+    )
+
+array-share-prefix-own : tie.Need-array-share-prefix-own
+array-share-prefix-own c = search needs
 
 slice-aggregate-copy : tie.Need-slice-aggregate-copy
-slice-aggregate-copy c = search needs
+slice-aggregate-copy c =
+    let u = c .before .before .before in
+    sym (length-take-le (u .compose .result) (u .compose .last .1 .0) (u .compose .ensures .0 .fits))
 
 copy-requires : tie.Need-copy-requires
-copy-requires c κs = search needs
+copy-requires c κs =
+    let u = c .before .before .before .before in
+    omega (arith, c .before .before .if1 .left, length-take-le (u .compose .result) (u .compose .last .1 .0) (u .compose .ensures .0 .fits))
 
 same-length : tie.Need-same-length
 same-length c = search needs
@@ -35,7 +49,7 @@ returns-2 c =
     let e = t .before .before .before in
     let u = e .before .before in
     let s = u .before .before .before .before .before in
-    listed-written (s .args .bundle .now) _ (s .args .text .now) _ _ (u .compose .ensures .0) (e .if1 .left) (t .copy .ensures)
+    (λ h. tt, listed-written (s .args .bundle .now) (u .compose .last .1 .0) (s .args .text .now) _ _ (u .compose .ensures .0) (e .if1 .left) (t .copy .ensures .1))
 
 pub listing-spec : {M : Type 1} → statement M
 listing-spec =
@@ -45,6 +59,7 @@ listing-spec =
     slice-aggregate-compose
     compose-requires
     returns
+    array-share-prefix-own
     slice-aggregate-copy
     copy-requires
     same-length
