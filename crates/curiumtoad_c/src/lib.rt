@@ -142,3 +142,68 @@ pub extern "C" fn curiumtoad_body(bundle: &[u8], method: u32, values: &mut [u32;
 {
     give(values, body_place(bundle, method as usize))
 }
+
+// The check of the whole bundle: accepted, or what is broken.
+#[no_mangle]
+pub extern "C" fn curiumtoad_check(bundle: &[u8], scratch: &mut [u8], values: &mut [u32; 8]) -> u8
+    ensures { λ r. ⌜ ChecksAs (now (bundle .entry)) (length (now (scratch .entry))) r (now (values .exit)) ⌝ }
+    ensures { λ r. ⌜ now (scratch .exit) ≡ scratchAfter (now (bundle .entry)) (now (scratch .entry)) ⌝ }
+{
+    let verdict = check(bundle, scratch);
+    give(values, of_verdict(verdict))
+}
+
+// A run: its ending, and the steps made.
+#[no_mangle]
+pub extern "C" fn curiumtoad_run(
+    bundle: &[u8],
+    scratch: &mut [u8],
+    function: u32,
+    a0: u32,
+    a1: u32,
+    a2: u32,
+    count: u32,
+    values: &mut [u32; 8],
+) -> u8
+    ensures { λ r. ⌜ r ≡ runNumber (runCall (now (bundle .entry)) (length (now (scratch .entry))) function (a0 ∷ a1 ∷ a2 ∷ []) count) ⌝ }
+    ensures { λ r. ⌜ now (values .exit) ≡ exportedValues outcomeValues (runCall (now (bundle .entry)) (length (now (scratch .entry))) function (a0 ∷ a1 ∷ a2 ∷ []) count) ⌝ }
+    ensures { λ r. ⌜ now (scratch .exit) ≡ scratchAfter (now (bundle .entry)) (now (scratch .entry)) ⌝ }
+{
+    let answer = run(
+        bundle,
+        scratch,
+        function as usize,
+        a0 as usize,
+        a1 as usize,
+        a2 as usize,
+        count,
+    );
+    give(values, of_run(answer))
+}
+
+// A run of an accepted bundle whose opening send some signature covers.
+#[no_mangle]
+pub extern "C" fn curiumtoad_run_accepted(
+    bundle: &[u8],
+    scratch: &mut [u8],
+    function: u32,
+    a0: u32,
+    a1: u32,
+    a2: u32,
+    count: u32,
+    values: &mut [u32; 8],
+) -> u8
+    ensures { λ r. ⌜ AcceptsAs (now (bundle .entry)) (length (now (scratch .entry))) function (a0 ∷ a1 ∷ a2 ∷ []) count r (now (values .exit)) ⌝ }
+    ensures { λ r. ⌜ now (scratch .exit) ≡ scratchAfter (now (bundle .entry)) (now (scratch .entry)) ⌝ }
+{
+    let answer = run_accepted(
+        bundle,
+        scratch,
+        function as usize,
+        a0 as usize,
+        a1 as usize,
+        a2 as usize,
+        count,
+    );
+    give(values, of_accepted(answer))
+}
