@@ -120,11 +120,12 @@ pub handed : {x : Reply} {number result : ℕ} {values written : List ℕ} → S
     → every small values ≡ true → (result ≡ number) × (written ≡ values)
 handed {values = values} (n, v) (r, w) h = (r ∙ n, w ∙ ap (map low) v ∙ lows-kept values h)
 
--- the same for the reply to an answer that is the call's
-pub exported : {A : Type 0} (given : A → List ℕ) {x : Reply} {said call : Answer A} {result : ℕ} {written : List ℕ} → said ≡ call
-    → Says x (exportedNumber said) (exportedValues given said) → (result ≡ x .number) × (written ≡ map low (replyValues x)) → Small given call
-    → (result ≡ exportedNumber call) × (written ≡ exportedValues given call)
-exported given {call = call} e s g h = handed (rw e at s) g (values-small given call h)
+-- the same for the reply to an answer that is the call's; the number is `exportedNumber`, or a run's
+pub exported : {A : Type 0} (number : Answer A → ℕ) (given : A → List ℕ) (call : Answer A) {x : Reply} {said : Answer A} {result : ℕ} {written : List ℕ}
+    → said ≡ call → Says x (number said) (exportedValues given said) → (result ≡ x .number) × (written ≡ map low (replyValues x)) → Small given call
+    → (result ≡ number call) × (written ≡ exportedValues given call)
+exported number given call e s g h =
+    handed {number = number call} {values = exportedValues given call} (rw e at s) g (values-small given call h)
 
 -- the numbers that a caller passes: three places, and a function before them
 pub three-small : {x y z : ℕ} → Fits w32 x → Fits w32 y → Fits w32 z → every small (x ∷ y ∷ z ∷ []) ≡ true

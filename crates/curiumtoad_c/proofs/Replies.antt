@@ -4,7 +4,7 @@ use Prim.Native.Nat.{ℕ}
 use mathlib.Core.Path.{_≡_, refl, sym, ap, _∙_}
 use mathlib.Core.List.{List, [], _∷_}
 use lib.ListN.{set}
-use Rattle.rules.specs.Layout.{Answer, gives, refuses}
+use Rattle.rules.specs.Layout.{refuses}
 use Rattle.layout.specs.declared.finding.LayoutFinding.{LayoutFinding}
 use Rattle.layout.specs.declared.finding.LayoutFinding.the-variants as finding
 use Rattle.layout.specs.Opening.{saidOf}
@@ -15,13 +15,17 @@ use Rattle.curiumtoad.specs.declared.refusal.Refusal.{Refusal}
 use Rattle.curiumtoad.specs.declared.refusal.Refusal.the-variants as refusal
 use Rattle.curiumtoad.specs.Refusal.{numberOf, valuesOf, recordOf}
 use Rattle.curiumtoad.specs.Prepared.{refusalSaid}
-use Rattle.curiumtoad.specs.Said.{blank}
 use Rattle.curiumtoad_c.specs.declared.reply.Reply.{Reply}
 use Rattle.curiumtoad_c.specs.Exported.{replyValues, filled, exportedNumber, exportedValues, nothing, counts, endingValues, outcomeValues, runNumber}
 
 -- what a reply says: a number and eight values
 abbrev pub Says : Reply → ℕ → List ℕ → Type 0
 Says x number values = (x .number ≡ number) × (replyValues x ≡ values)
+
+-- eight equal values
+pub same-eight : {a b c d e f g h a′ b′ c′ d′ e′ f′ g′ h′ : ℕ} → a ≡ a′ → b ≡ b′ → c ≡ c′ → d ≡ d′ → e ≡ e′ → f ≡ f′ → g ≡ g′ → h ≡ h′
+    → _≡_ {A = List ℕ} (a ∷ b ∷ c ∷ d ∷ e ∷ f ∷ g ∷ h ∷ []) (a′ ∷ b′ ∷ c′ ∷ d′ ∷ e′ ∷ f′ ∷ g′ ∷ h′ ∷ [])
+same-eight p q r s t u v w = cc
 
 -- a layout finding has the one value that is its record, or none
 pub layout-values : (f : LayoutFinding) → filled 8 (recordOf (saidOf f) ∷ 0 ∷ []) ≡ filled 8 (valuesOf (saidOf f))
@@ -90,12 +94,3 @@ steps-last (ending.Ambiguous f x y z m n) k = refl
 steps-last (ending.Declared f x y z m) k = refl
 steps-last (ending.Values m at) k = refl
 steps-last (ending.Abstract m at) k = refl
-
--- the send type itself is in the row: of its answer only the refusals have values
-pub blank-number : {A : Type 0} (a : Answer A) → exportedNumber (blank a) ≡ exportedNumber a
-blank-number (gives t) = refl
-blank-number (refuses number values) = refl
-
-pub blank-values : {A : Type 0} (a : Answer A) → exportedValues nothing (blank a) ≡ exportedValues nothing a
-blank-values (gives t) = refl
-blank-values (refuses number values) = refl

@@ -27,8 +27,11 @@ use Rattle.layout.specs.declared.bundle.Bundle.{Bundle}
 use Rattle.layout.specs.declared.field.Span.{Span}
 use Rattle.layout.specs.Opening.{Opens}
 use Rattle.layout.specs.Bodies.{BodySpan}
-use Rattle.curiumtoad_c.specs.Exported.{filled, nothing, counts, yesOrNo, method, placed}
-use Rattle.curiumtoad_c.proofs.Fitting.{small, below-small, also, alone, every-append, every-take, filled-small, Small, require-small, each-small}
+use Rattle.curiumtoad.specs.Said.{blank}
+use Rattle.curiumtoad_c.specs.declared.reply.Reply.{Reply}
+use Rattle.curiumtoad_c.specs.Exported.{replyValues, low, filled, exportedNumber, exportedValues, nothing, counts, yesOrNo, method, placed}
+use Rattle.curiumtoad_c.proofs.Replies.{Says}
+use Rattle.curiumtoad_c.proofs.Fitting.{small, below-small, also, alone, every-append, every-take, filled-small, Small, require-small, each-small, exported}
 
 -- the counts, and the records that a refusal names
 pub opening-small : (b : List ℕ) → Small counts (opening b)
@@ -145,6 +148,27 @@ unfolding sendTypeCall sendTypeIn
 send-type-small b scratch row f tuple =
     scratch-small nothing b scratch (sendTypeIn row f tuple)
     (λ w. require-small nothing _ 20 _ (λ r. require-small nothing _ 18 _ (λ e. licensed-small (sendType (modelOf b) f (map (λ c. c ∷ []) (used (modelOf b) f tuple))))))
+
+-- the send type itself is in the row: of its answer only the refusals have values
+module _ {A : Type 0} where
+  blank-number : (a : Answer A) → exportedNumber (blank a) ≡ exportedNumber a
+  blank-number (gives t) = refl
+  blank-number (refuses number values) = refl
+
+  blank-values : (a : Answer A) → exportedValues nothing (blank a) ≡ exportedValues nothing a
+  blank-values (gives t) = refl
+  blank-values (refuses number values) = refl
+
+  blank-small : (a : Answer A) → Small nothing a → Small nothing (blank a)
+  blank-small (gives t) h = h
+  blank-small (refuses number values) h = h
+
+  pub blank-exported : (call : Answer A) {x : Reply} {said : Answer (Unit {0})} {result : ℕ} {written : List ℕ} → said ≡ blank call
+      → Says x (exportedNumber said) (exportedValues nothing said) → (result ≡ x .number) × (written ≡ map low (replyValues x)) → Small nothing call
+      → (result ≡ exportedNumber call) × (written ≡ exportedValues nothing call)
+  blank-exported call e s g h =
+      let (n, v) = exported exportedNumber nothing (blank call) e s g (blank-small call h) in
+      (n ∙ blank-number call, v ∙ blank-values call)
 
 -- the methods that a judgement names
 abbrev SmallJudgement : Judgement → Type 0

@@ -2,7 +2,8 @@
 -- Assumes nothing.
 use borrow.Author.Needs.{needs}
 use lib.ListN.{length}
-use Rattle.curiumtoad_c.specs.Exported.{yesOrNo}
+use Rattle.rules.specs.Calls.{ancestryCall}
+use Rattle.curiumtoad_c.specs.Exported.{exportedNumber, yesOrNo}
 use Rattle.curiumtoad_c.proofs.Fitting.{exported}
 use Rattle.curiumtoad_c.proofs.Within.{ancestry-small}
 use Rattle.curiumtoad_c.proofs.curiumtoad_ancestry.Statement.{statement}
@@ -25,7 +26,8 @@ returns c =
     let f = c .before in
     let e = f .before .before .before .before in
     let g = e .before .before .before .before in
-    let (n, v) = exported yesOrNo (e .ancestry .ensures .0) (f .of-ancestry .ensures) (c .give .ensures)
+    let (n, v) = exported exportedNumber yesOrNo (ancestryCall (g .args .bundle .now) (length (g .args .scratch .now)) (g .args .a) (g .args .b))
+    (e .ancestry .ensures .0) (f .of-ancestry .ensures) (c .give .ensures)
     (ancestry-small (g .args .bundle .now) (length (g .args .scratch .now)) (g .args .a) (g .args .b)) in
     (n, (v, e .ancestry .ensures .1))
 

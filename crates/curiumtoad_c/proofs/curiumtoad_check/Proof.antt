@@ -2,7 +2,8 @@
 -- Assumes nothing.
 use borrow.Author.Needs.{needs}
 use lib.ListN.{length}
-use Rattle.curiumtoad_c.specs.Exported.{nothing}
+use Rattle.rules.specs.Calls.{checkCallNaming}
+use Rattle.curiumtoad_c.specs.Exported.{exportedNumber, nothing}
 use Rattle.curiumtoad_c.proofs.Fitting.{exported}
 use Rattle.curiumtoad_c.proofs.Verdicts.{check-small}
 use Rattle.curiumtoad_c.proofs.curiumtoad_check.Statement.{statement}
@@ -26,7 +27,8 @@ returns c =
     let e = f .before .before .before .before in
     let g = e .before .before .before .before in
     let checks = e .check .ensures .0 in
-    let (n, v) = exported nothing (checks .verdict) (f .of-verdict .ensures) (c .give .ensures)
+    let (n, v) = exported exportedNumber nothing (checkCallNaming (g .args .bundle .now) (length (g .args .scratch .now)) (checks .args))
+    (checks .verdict) (f .of-verdict .ensures) (c .give .ensures)
     (check-small (g .args .bundle .now) (length (g .args .scratch .now)) (checks .args) (checks .names)) in
     (record { args = checks .args; names = checks .names; same-number = n; same-values = v }, e .check .ensures .1)
 

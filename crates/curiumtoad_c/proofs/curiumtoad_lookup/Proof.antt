@@ -3,7 +3,8 @@
 use borrow.Author.Needs.{needs}
 use lib.ListN.{length}
 use mathlib.Core.List.{[], _∷_}
-use Rattle.curiumtoad_c.specs.Exported.{method}
+use Rattle.rules.specs.Calls.{lookupCall}
+use Rattle.curiumtoad_c.specs.Exported.{exportedNumber, method}
 use Rattle.curiumtoad_c.proofs.Fitting.{exported, four-small}
 use Rattle.curiumtoad_c.proofs.Within.{lookup-small}
 use Rattle.curiumtoad_c.proofs.curiumtoad_lookup.Statement.{statement}
@@ -26,7 +27,8 @@ returns c =
     let f = c .before in
     let e = f .before .before .before .before in
     let g = e .before .before .before .before in
-    let (n, v) = exported method (e .lookup .ensures .0) (f .of-lookup .ensures) (c .give .ensures)
+    let (n, v) = exported exportedNumber method (lookupCall (g .args .bundle .now) (length (g .args .scratch .now)) (g .args .function) (g .args .a0 ∷ g .args .a1 ∷ g .args .a2 ∷ []))
+    (e .lookup .ensures .0) (f .of-lookup .ensures) (c .give .ensures)
     (lookup-small (g .args .bundle .now) (length (g .args .scratch .now)) (g .args .function) (g .args .a0 ∷ g .args .a1 ∷ g .args .a2 ∷ [])
     (four-small (g .fits .function) (g .fits .a0) (g .fits .a1) (g .fits .a2))) in
     (n, (v, e .lookup .ensures .1))

@@ -1,7 +1,8 @@
 -- `curiumtoad_c::curiumtoad_open` meets its contract: the reply to the call's answer is written, and each of its values fits 32 bits.
 -- Assumes nothing.
 use borrow.Author.Needs.{needs}
-use Rattle.curiumtoad_c.specs.Exported.{counts}
+use Rattle.rules.specs.Calls.{openingCall}
+use Rattle.curiumtoad_c.specs.Exported.{exportedNumber, counts}
 use Rattle.curiumtoad_c.proofs.Fitting.{exported}
 use Rattle.curiumtoad_c.proofs.Within.{opening-call-small}
 use Rattle.curiumtoad_c.proofs.curiumtoad_open.Statement.{statement}
@@ -20,7 +21,8 @@ returns : tie.Need-returns
 returns c =
     let f = c .before in
     let e = f .before in
-    exported counts (e .«open» .ensures .0) (f .of-opening .ensures) (c .give .ensures) (opening-call-small (e .before .before .before .args .bundle .now))
+    let b = e .before .before .before .args .bundle .now in
+    exported exportedNumber counts (openingCall b) (e .«open» .ensures .0) (f .of-opening .ensures) (c .give .ensures) (opening-call-small b)
 
 pub curiumtoad-open-spec : {M : Type 1} → statement M
 curiumtoad-open-spec = tie.close (tie.spec open-requires of-opening-requires give-requires returns)

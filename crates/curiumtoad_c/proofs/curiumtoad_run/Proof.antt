@@ -3,9 +3,9 @@
 use borrow.Author.Needs.{needs}
 use lib.ListN.{length}
 use mathlib.Core.List.{[], _∷_}
-use Rattle.curiumtoad_c.specs.Exported.{outcomeValues}
+use Rattle.curiumtoad_c.specs.Exported.{outcomeValues, runNumber}
 use Rattle.rules.specs.Calls.{runCall}
-use Rattle.curiumtoad_c.proofs.Fitting.{handed, values-small, four-small}
+use Rattle.curiumtoad_c.proofs.Fitting.{exported, four-small}
 use Rattle.curiumtoad_c.proofs.Stepping.{run-small}
 use Rattle.curiumtoad_c.proofs.curiumtoad_run.Statement.{statement}
 use Rattle.curiumtoad_c.proofs.curiumtoad_run.Tie as tie
@@ -27,10 +27,10 @@ returns c =
     let f = c .before in
     let e = f .before .before .before .before in
     let g = e .before .before .before .before in
-    let call = runCall (g .args .bundle .now) (length (g .args .scratch .now)) (g .args .function) (g .args .a0 ∷ g .args .a1 ∷ g .args .a2 ∷ []) (g .args .count) in
-    let small = run-small (g .args .bundle .now) (length (g .args .scratch .now)) (g .args .function) (g .args .a0 ∷ g .args .a1 ∷ g .args .a2 ∷ []) (g .args .count)
-    (four-small (g .fits .function) (g .fits .a0) (g .fits .a1) (g .fits .a2)) (g .fits .count .fits) in
-    let (n, v) = handed (rw (e .run .ensures .0) at (f .of-run .ensures)) (c .give .ensures) (values-small outcomeValues call small) in
+    let (n, v) = exported runNumber outcomeValues (runCall (g .args .bundle .now) (length (g .args .scratch .now)) (g .args .function) (g .args .a0 ∷ g .args .a1 ∷ g .args .a2 ∷ []) (g .args .count))
+    (e .run .ensures .0) (f .of-run .ensures) (c .give .ensures)
+    (run-small (g .args .bundle .now) (length (g .args .scratch .now)) (g .args .function) (g .args .a0 ∷ g .args .a1 ∷ g .args .a2 ∷ []) (g .args .count)
+    (four-small (g .fits .function) (g .fits .a0) (g .fits .a1) (g .fits .a2)) (g .fits .count .fits)) in
     (n, (v, e .run .ensures .1))
 
 pub curiumtoad-run-spec : {M : Type 1} → statement M

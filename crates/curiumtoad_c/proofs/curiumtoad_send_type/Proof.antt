@@ -3,13 +3,8 @@
 use borrow.Author.Needs.{needs}
 use lib.ListN.{length}
 use mathlib.Core.List.{[], _∷_}
-use mathlib.Core.Path.{ap, _∙_}
-use Rattle.curiumtoad_c.specs.Exported.{exportedNumber, exportedValues}
-use Rattle.curiumtoad_c.specs.Exported.{nothing}
 use Rattle.rules.specs.Calls.{sendTypeCall}
-use Rattle.curiumtoad_c.proofs.Fitting.{handed, values-small}
-use Rattle.curiumtoad_c.proofs.Replies.{blank-number, blank-values}
-use Rattle.curiumtoad_c.proofs.Within.{send-type-small}
+use Rattle.curiumtoad_c.proofs.Within.{blank-exported, send-type-small}
 use Rattle.curiumtoad_c.proofs.curiumtoad_send_type.Statement.{statement}
 use Rattle.curiumtoad_c.proofs.curiumtoad_send_type.Tie as tie
 
@@ -33,10 +28,9 @@ returns c =
     let f = c .before in
     let e = f .before .before .before .before .before .before in
     let g = e .before .before .before .before .before .before in
-    let call = sendTypeCall (g .args .bundle .now) (length (g .args .scratch .now)) (length (g .args .row .now)) (g .args .function) (g .args .a0 ∷ g .args .a1 ∷ g .args .a2 ∷ []) in
-    let (p, q) = rw (e .send-type .ensures .0) at (f .of-send-type .ensures) in
-    let small = send-type-small (g .args .bundle .now) (length (g .args .scratch .now)) (length (g .args .row .now)) (g .args .function) (g .args .a0 ∷ g .args .a1 ∷ g .args .a2 ∷ []) in
-    let (n, v) = handed (p ∙ blank-number call, q ∙ blank-values call) (c .give .ensures) (values-small nothing call small) in
+    let (n, v) = blank-exported (sendTypeCall (g .args .bundle .now) (length (g .args .scratch .now)) (length (g .args .row .now)) (g .args .function) (g .args .a0 ∷ g .args .a1 ∷ g .args .a2 ∷ []))
+    (e .send-type .ensures .0) (f .of-send-type .ensures) (c .give .ensures)
+    (send-type-small (g .args .bundle .now) (length (g .args .scratch .now)) (length (g .args .row .now)) (g .args .function) (g .args .a0 ∷ g .args .a1 ∷ g .args .a2 ∷ [])) in
     (n, (v, (e .send-type .ensures .1 .0, e .send-type .ensures .1 .1)))
 
 pub curiumtoad-send-type-spec : {M : Type 1} → statement M

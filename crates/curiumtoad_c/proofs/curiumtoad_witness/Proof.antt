@@ -3,7 +3,8 @@
 use borrow.Author.Needs.{needs}
 use lib.ListN.{length}
 use mathlib.Core.List.{[], _∷_}
-use Rattle.curiumtoad_c.specs.Exported.{nothing}
+use Rattle.rules.specs.Calls.{witnessCall}
+use Rattle.curiumtoad_c.specs.Exported.{exportedNumber, nothing}
 use Rattle.curiumtoad_c.proofs.Fitting.{exported, three-small}
 use Rattle.curiumtoad_c.proofs.Within.{witness-small}
 use Rattle.curiumtoad_c.proofs.curiumtoad_witness.Statement.{statement}
@@ -26,7 +27,8 @@ returns c =
     let f = c .before in
     let e = f .before .before .before .before in
     let g = e .before .before .before .before in
-    let (n, v) = exported nothing (e .witness .ensures .0) (f .of-witness .ensures) (c .give .ensures)
+    let (n, v) = exported exportedNumber nothing (witnessCall (g .args .bundle .now) (length (g .args .scratch .now)) (g .args .signature) (g .args .a0 ∷ g .args .a1 ∷ g .args .a2 ∷ []))
+    (e .witness .ensures .0) (f .of-witness .ensures) (c .give .ensures)
     (witness-small (g .args .bundle .now) (length (g .args .scratch .now)) (g .args .signature) (g .args .a0 ∷ g .args .a1 ∷ g .args .a2 ∷ [])
     (three-small (g .fits .a0) (g .fits .a1) (g .fits .a2))) in
     (n, (v, e .witness .ensures .1))

@@ -2,6 +2,7 @@
 -- Assumes nothing.
 use borrow.Author.Needs.{needs}
 use mathlib.Core.Path.{refl}
+use Rattle.curiumtoad_c.proofs.Replies.{same-eight}
 use Rattle.curiumtoad_c.proofs.reply.give.Statement.{statement}
 use Rattle.curiumtoad_c.proofs.reply.give.Tie as tie
 
@@ -39,7 +40,7 @@ returns c =
     let c2 = c3 .before in
     let c1 = c2 .before in
     let c0 = c1 .before in
-    (refl, cc (c0 .narrow .ensures, c1 .narrow2 .ensures, c2 .narrow3 .ensures, c3 .narrow4 .ensures, c4 .narrow5 .ensures, c5 .narrow6 .ensures, c6 .narrow7 .ensures, c7 .narrow8 .ensures))
+    (refl, same-eight (c0 .narrow .ensures) (c1 .narrow2 .ensures) (c2 .narrow3 .ensures) (c3 .narrow4 .ensures) (c4 .narrow5 .ensures) (c5 .narrow6 .ensures) (c6 .narrow7 .ensures) (c7 .narrow8 .ensures))
 
 pub give-spec : {M : Type 1} → statement M
 give-spec =

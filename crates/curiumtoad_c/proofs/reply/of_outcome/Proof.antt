@@ -17,7 +17,7 @@ returns : tie.Need-returns
 unfolding outcomeOf
 returns c =
     let o = c .before .before .args .outcome in
-    let (n, v) = stepped (c .before .of-ending .ensures) (c .with-steps .ensures) in
+    let (n, v) = stepped {k = o .steps} (c .before .of-ending .ensures) (c .with-steps .ensures) in
     (n, v ∙ steps-last (o .ending) (o .steps))
 
 pub of-outcome-spec : {M : Type 1} → statement M
