@@ -78,7 +78,7 @@ pub fn short(number: u8, v0: usize, v1: usize) -> Reply
 }
 
 // 1 to 9, from 4 on with the record.
-pub fn of_layout(found: LayoutFinding) -> Reply
+fn of_layout(found: LayoutFinding) -> Reply
     ensures { λ r. ⌜ r .number ≡ numberOf (saidOf found) ⌝ }
     ensures { λ r. ⌜ replyValues r ≡ filled 8 (valuesOf (saidOf found)) ⌝ }
 {
@@ -126,7 +126,7 @@ pub fn of_ancestry(answer: AncestryAnswer) -> Reply
     }
 }
 
-// A send that finds no method, or none alone: the function, its three places, and two methods or none.
+// A send that a lookup refuses: the function, its three places, and the two rivals or none.
 fn of_send(number: u8, send: Send, m: usize, n: usize) -> Reply
     ensures { λ r. ⌜ r .number ≡ number ⌝ }
     ensures { λ r. ⌜ replyValues r ≡ filled 8 (sendValues send ++ m ∷ n ∷ []) ⌝ }
@@ -157,7 +157,7 @@ pub fn of_send_type(answer: SendTypeAnswer) -> Reply
     }
 }
 
-// The same under a signature.
+// A broken tuple: the signature, its send, and two methods, one or none.
 fn of_tuple(number: u8, signature: usize, send: Send, m: usize, n: usize) -> Reply
     ensures { λ r. ⌜ r .number ≡ number ⌝ }
     ensures { λ r. ⌜ replyValues r ≡ filled 8 (signature ∷ sendValues send ++ m ∷ n ∷ []) ⌝ }
@@ -243,7 +243,7 @@ fn of_ending(ending: Ending) -> Reply
     }
 }
 
-// The steps made are the last value.
+// The same reply with the steps made as its last value.
 fn with_steps(reply: Reply, steps: u32) -> Reply
     ensures { λ r. ⌜ r .number ≡ reply .number ⌝ }
     ensures { λ r. ⌜ replyValues r ≡ set (replyValues reply) 7 steps ⌝ }
@@ -300,7 +300,7 @@ fn narrow(x: usize) -> u32
     (x & 0xffff_ffff) as u32
 }
 
-// Writes the values, and gives the number.
+// Writes the values, and gives the number. That each value fits 32 bits is a law of each call.
 pub fn give(values: &mut [u32; 8], reply: Reply) -> u8
     ensures { λ r. ⌜ r ≡ reply .number ⌝ }
     ensures { λ r. ⌜ now (values .exit) ≡ map low (replyValues reply) ⌝ }
