@@ -1,11 +1,11 @@
 -- Every value of the run of an accepted bundle fits 32 bits: it is one of the run's, of the check's, or 1.
 -- Assumes nothing.
 use Prim.Native.Nat.{ℕ, _<_}
-use mathlib.Core.Path.{_≡_, refl, sym}
+use mathlib.Core.Path.{_≡_, refl}
 use mathlib.Core.Bool.{true}
-use mathlib.Core.List.{List, [], _∷_}
+use mathlib.Core.List.{List, _∷_}
 use Rattle.rules.specs.Bounded.{every}
-use Rattle.rules.specs.Calls.{runCall, checkCallNaming}
+use Rattle.rules.specs.Calls.{checkCallNaming}
 use Rattle.layout.specs.Opening.{saidOf}
 use Rattle.curiumtoad.specs.declared.refusal.Refusal.{Refusal}
 use Rattle.curiumtoad.specs.declared.refusal.Refusal.the-variants as refusal

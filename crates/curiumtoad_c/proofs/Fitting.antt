@@ -3,12 +3,12 @@
 use Prim.Native.Nat.{ℕ, zero, suc, _≤_, _<_}
 use native.Mathlib.Nat.{mod-eq-of-lt}
 use native.Mathlib.Omega.{arith}
-use mathlib.Core.Path.{_≡_, refl, sym, ap, _∙_}
+use mathlib.Core.Path.{_≡_, refl, ap, _∙_}
 use mathlib.Core.Bool.{Bool, true, false}
 use mathlib.Core.List.{List, [], _∷_, _++_, map, reverse, reverseAux}
 use mathlib.Core.Option.{Option, none, some}
 use lib.Dec.{ltb}
-use lib.ListN.{length, take, drop, replicate}
+use lib.ListN.{take, drop, replicate}
 use mir.Syntax.{w32}
 use mir.Val.{Fits}
 use borrow.Author.Tests.{ltb-true, lt-ltb}
@@ -16,7 +16,7 @@ use Rattle.rules.specs.Bounded.{every}
 use Rattle.rules.specs.Layout.{Answer, gives, refuses, require, requireEach, lowest}
 use Rattle.rules.proofs.Lists.{and-left, and-right, and-both, lowest-some}
 use Rattle.curiumtoad_c.specs.declared.reply.Reply.{Reply}
-use Rattle.curiumtoad_c.specs.Exported.{replyValues, filled, exportedNumber, exportedValues, low}
+use Rattle.curiumtoad_c.specs.Exported.{replyValues, filled, exportedValues, low}
 use Rattle.curiumtoad_c.proofs.Replies.{Says}
 
 -- a test that passes at every element passes at every element of a part, of a list turned round, and of two lists together

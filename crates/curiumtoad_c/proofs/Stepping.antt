@@ -3,7 +3,7 @@
 use Prim.Native.Nat.{ℕ, zero, suc, _+_, _≤_, _<_}
 use native.Mathlib.Omega.{arith}
 use mathlib.Core.Path.{_≡_, refl}
-use mathlib.Core.Bool.{Bool, true, false, cond, _&&_}
+use mathlib.Core.Bool.{Bool, true, false, cond}
 use mathlib.Core.List.{List, [], _∷_, _++_}
 use lib.Dec.{ltb, leb}
 use lib.ListN.{length, take, drop, getD}
@@ -13,9 +13,9 @@ use Rattle.rules.specs.Layout.{padded}
 use Rattle.rules.specs.Model.{Model, Instr, arg, new, send, Wellformed, modelOf, operandRule}
 use Rattle.rules.specs.Lookup.{Found, found, missing, ambiguous, lookup}
 use Rattle.rules.specs.Types.{arguments}
-use Rattle.rules.specs.Coverage.{concreteClass, declaredHold}
-use Rattle.rules.specs.Machine.{Frame, Ending, value, spent, deep, stopped, Landing, goes, ends, Turn, made, failed, stoppedAt, settle, push, land, Target, enters, stops, targetFound, target, enter, callTarget, call, after, turn, meeting, sent, Outcome, Run, finished, meets, afterTurn, runFrom, run, maxFrames}
-use Rattle.rules.specs.Calls.{sendRule, used, runIn, runCall}
+use Rattle.rules.specs.Coverage.{declaredHold}
+use Rattle.rules.specs.Machine.{Frame, Ending, value, spent, deep, stopped, Landing, goes, ends, Turn, made, failed, stoppedAt, settle, push, land, Target, enters, stops, targetFound, target, enter, callTarget, call, after, turn, meeting, sent, Outcome, finished, meets, afterTurn, runFrom, run, maxFrames}
+use Rattle.rules.specs.Calls.{used, runIn, runCall}
 use Rattle.rules.proofs.Lists.{and-left, and-right}
 use Rattle.rules.proofs.Lookup.{lookup-leader}
 use Rattle.rules.proofs.Machine.{steps-most}

@@ -1,6 +1,6 @@
 -- Every value that a check names fits 32 bits: a signature and a tuple of classes of the bundle, or a method and an instruction of it.
 -- Assumes nothing.
-use Prim.Native.Nat.{ℕ, zero, suc, _+_, _≤_, _<_}
+use Prim.Native.Nat.{ℕ, suc, _+_, _≤_, _<_}
 use native.Mathlib.Omega.{arith}
 use mathlib.Core.Path.{_≡_, refl}
 use mathlib.Core.Bool.{Bool, true, false, cond}
@@ -12,7 +12,7 @@ use borrow.Author.Tests.{ltb-true}
 use Rattle.rules.specs.Bounded.{every}
 use Rattle.rules.specs.Model.{Model, Instr, Wellformed, modelOf}
 use Rattle.rules.specs.Types.{Static, Typing, typed, breaks, Effect, leaves, breaksBy, effect, inType, ending, afterEffect, typeFrom, typeBody}
-use Rattle.rules.specs.Coverage.{concreteClass, judge, brokenSignature, brokenMethod, bodyRefusal, bodyVerdict, coverageVerdict, verdictNaming, NamesBroken}
+use Rattle.rules.specs.Coverage.{concreteClass, brokenSignature, brokenMethod, bodyRefusal, bodyVerdict, coverageVerdict, verdictNaming, NamesBroken}
 use Rattle.rules.specs.Calls.{checkCallNaming}
 use Rattle.rules.proofs.Lists.{and-left}
 use Rattle.rules.proofs.Coverage.{broken-signature, broken-method}

@@ -1,22 +1,22 @@
 -- Every value of each call's answer fits 32 bits: it is one of the numbers passed, which do, or a number of a record, a class, an instruction or a place
 -- of an opened bundle, which are low.
 -- Assumes nothing.
-use Prim.Native.Nat.{ℕ, zero, suc, _+_, _≤_, _<_}
+use Prim.Native.Nat.{ℕ, _+_, _≤_, _<_}
 use native.Mathlib.Omega.{arith}
-use mathlib.Core.Path.{_≡_, refl, sym, ap, _∙_}
-use mathlib.Core.Bool.{Bool, true, false, cond, _&&_}
+use mathlib.Core.Path.{_≡_, refl, sym, _∙_}
+use mathlib.Core.Bool.{Bool, true, false, cond}
 use mathlib.Core.List.{List, [], _∷_, _++_, map}
 use lib.Dec.{ltb, leb}
-use lib.ListN.{length, take}
+use lib.ListN.{length}
 use borrow.Author.Tests.{leb-true, ltb-true}
 use Rattle.rules.specs.Bounded.{every}
-use Rattle.rules.specs.Layout.{Answer, gives, refuses, require, requireEach, lowest, opening, sizeRule, chainRule, wholeRule, limitRule, classRule, functionRule, signatureRule, methodRule, twinRule, codeRule, classCount, functionCount, signatureCount, methodCount, maxClasses, maxFunctions, maxSignatures, maxMethods, offset, codeSection, bodyOffset, codeOf, padded}
+use Rattle.rules.specs.Layout.{Answer, gives, refuses, require, opening, limitRule, classRule, functionRule, signatureRule, methodRule, twinRule, codeRule, classCount, functionCount, signatureCount, methodCount, maxClasses, maxFunctions, maxSignatures, maxMethods, offset, codeSection, bodyOffset, codeOf, padded}
 use Rattle.rules.specs.Model.{Model, Wellformed, modelOf}
 use Rattle.rules.specs.Lookup.{Found, found, missing, ambiguous, lookup}
 use Rattle.rules.specs.Subclass.{subclass}
 use Rattle.rules.specs.Types.{Static, sendType}
 use Rattle.rules.specs.Coverage.{Judgement, holds, fails, judge, judgeFound, declaredHold, coverageRefusal}
-use Rattle.rules.specs.Calls.{onOpening, whenOpen, withScratch, scratchBytes, bit, used, sendRule, openingCall, ancestryIn, ancestryCall, foundAnswer, lookupIn, lookupCall, bodyViewCall, licensed, sendTypeIn, sendTypeCall, witnessRule, witnessAnswer, witnessIn, witnessCall}
+use Rattle.rules.specs.Calls.{onOpening, whenOpen, withScratch, scratchBytes, bit, used, openingCall, ancestryIn, ancestryCall, foundAnswer, lookupIn, lookupCall, bodyViewCall, licensed, sendTypeIn, sendTypeCall, witnessRule, witnessAnswer, witnessIn, witnessCall}
 use Rattle.rules.proofs.Lists.{and-left, and-right}
 use Rattle.rules.proofs.Opening.{opened-rules}
 use Rattle.rules.proofs.Places.{rules-sections, body-within, code-length}

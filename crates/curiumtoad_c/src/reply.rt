@@ -19,7 +19,7 @@ use layout::finding::Opening;
 use machine::ending::Ending;
 use machine::ending::Outcome;
 ghost use mathlib.Core.Path.{_≡_};
-ghost use mathlib.Core.List.{List, [], _∷_, _++_, map};
+ghost use mathlib.Core.List.{[], _∷_, _++_, map};
 ghost use lib.ListN.{set};
 ghost use Rattle.layout.specs.Opening.{said, saidOf};
 ghost use Rattle.machine.specs.Endings.{endingOf, outcomeOf};

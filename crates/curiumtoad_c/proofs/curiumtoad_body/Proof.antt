@@ -1,8 +1,8 @@
 -- `curiumtoad_c::curiumtoad_body` meets its contract: the reply to the call's answer is written, and each of its values fits 32 bits.
 -- Assumes nothing.
 use borrow.Author.Needs.{needs}
-use Rattle.curiumtoad_c.specs.Exported.{placed}
 use Rattle.rules.specs.Calls.{bodyViewCall}
+use Rattle.curiumtoad_c.specs.Exported.{placed}
 use Rattle.curiumtoad_c.proofs.Fitting.{handed, values-small}
 use Rattle.curiumtoad_c.proofs.Within.{body-small}
 use Rattle.curiumtoad_c.proofs.curiumtoad_body.Statement.{statement}

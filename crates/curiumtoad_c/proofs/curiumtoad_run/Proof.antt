@@ -1,10 +1,10 @@
 -- `curiumtoad_c::curiumtoad_run` meets its contract: the reply to the call's answer is written, and each of its values fits 32 bits.
 -- Assumes nothing.
 use borrow.Author.Needs.{needs}
-use lib.ListN.{length}
 use mathlib.Core.List.{[], _∷_}
-use Rattle.curiumtoad_c.specs.Exported.{outcomeValues, runNumber}
+use lib.ListN.{length}
 use Rattle.rules.specs.Calls.{runCall}
+use Rattle.curiumtoad_c.specs.Exported.{outcomeValues, runNumber}
 use Rattle.curiumtoad_c.proofs.Fitting.{exported, four-small}
 use Rattle.curiumtoad_c.proofs.Stepping.{run-small}
 use Rattle.curiumtoad_c.proofs.curiumtoad_run.Statement.{statement}

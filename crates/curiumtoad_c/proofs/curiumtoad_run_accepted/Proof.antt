@@ -1,8 +1,8 @@
 -- `curiumtoad_c::curiumtoad_run_accepted` meets its contract: the reply to the call's answer is written, and each of its values fits 32 bits.
 -- Assumes nothing.
 use borrow.Author.Needs.{needs}
-use lib.ListN.{length}
 use mathlib.Core.List.{[], _∷_}
+use lib.ListN.{length}
 use Rattle.curiumtoad_c.proofs.Fitting.{handed, four-small}
 use Rattle.curiumtoad_c.proofs.Accepting.{accepted-small}
 use Rattle.curiumtoad_c.proofs.curiumtoad_run_accepted.Statement.{statement}

@@ -1,8 +1,8 @@
 -- `curiumtoad_c::curiumtoad_send_type` meets its contract: the reply to the call's answer is written, and each of its values fits 32 bits.
 -- Assumes nothing.
 use borrow.Author.Needs.{needs}
-use lib.ListN.{length}
 use mathlib.Core.List.{[], _∷_}
+use lib.ListN.{length}
 use Rattle.rules.specs.Calls.{sendTypeCall}
 use Rattle.curiumtoad_c.proofs.Within.{blank-exported, send-type-small}
 use Rattle.curiumtoad_c.proofs.curiumtoad_send_type.Statement.{statement}

@@ -2,8 +2,8 @@
 -- Assumes nothing.
 use borrow.Author.Needs.{needs}
 use mathlib.Core.Path.{_∙_}
-use Rattle.curiumtoad.proofs.Called.{view-refused, view-absent, view-given}
 use Rattle.layout.proofs.Opened.{opened-of}
+use Rattle.curiumtoad.proofs.Called.{view-refused, view-absent, view-given}
 use Rattle.curiumtoad_c.proofs.Replies.{said-layout}
 use Rattle.curiumtoad_c.proofs.Within.{span-values}
 use Rattle.curiumtoad_c.proofs.body.body_place.Statement.{statement}
