@@ -122,10 +122,10 @@ fn sections(bytes: &[u8]) -> Option<Sections<'_>> {
         end = offset + length;
     }
     let [classes, parents, functions, signatures, methods, code] = parts;
-    let whole = classes.len() % CLASS == 0
-        && signatures.len() % SIGNATURE == 0
-        && methods.len() % METHOD == 0
-        && code.len() % 2 == 0
+    let whole = classes.len().is_multiple_of(CLASS)
+        && signatures.len().is_multiple_of(SIGNATURE)
+        && methods.len().is_multiple_of(METHOD)
+        && code.len().is_multiple_of(2)
         && (code.is_empty() || !methods.is_empty());
     if end != bytes.len() || !whole {
         return None;
@@ -215,7 +215,7 @@ fn method_records<'a>(sections: &Sections<'a>, bundle: &Bundle) -> Result<Vec<Me
             && result < bundle.classes.len()
             && offset == end
             && (2..=128).contains(&length)
-            && length % 2 == 0
+            && length.is_multiple_of(2)
             && offset + length <= sections.code.len();
         if !lawful {
             return Err(number);
