@@ -265,18 +265,28 @@ impl Chooser<'_> {
         self.random.of(&absent)
     }
 
-    /// A class under another, by walking down at random; or any class.
+    /// A class under another, concrete if a few tries find one; or, once in a while, any class.
     fn class_under(&mut self, top: u8) -> u32 {
+        if self.random.once_in(12) {
+            return self.number(self.parts.classes.len());
+        }
+        let mut class = self.walk_down(top);
+        for _ in 0..3 {
+            if !self.parts.classes.get(class).is_some_and(|found| found.concrete) {
+                class = self.walk_down(top);
+            }
+        }
+        class as u32
+    }
+
+    fn walk_down(&mut self, top: u8) -> usize {
         let mut class = top as usize;
         for lower in class + 1..self.parts.classes.len() {
             if self.parts.classes[lower].parents.contains(&(class as u8)) && self.random.once_in(2) {
                 class = lower;
             }
         }
-        if self.random.once_in(12) {
-            return self.number(self.parts.classes.len());
-        }
-        class as u32
+        class
     }
 
     fn tuple(&mut self, function: u8, tops: [u8; 3]) -> [u32; 3] {

@@ -59,8 +59,8 @@ struct Function<const W: usize> {
     holding: [Vec<Set<W>>; 3],
     /// For each method the methods that it is at least as specific as.
     below: Vec<Set<W>>,
-    /// For each place the classes that are specialisers, and the classes that are declared.
-    named: [[u128; 2]; 3],
+    /// For each place and class a number that classes share where no method tells them apart.
+    groups: [[u8; 128]; 3],
     kept: Kept<W>,
 }
 
@@ -73,13 +73,13 @@ impl<const W: usize> Function<W> {
             let record = methods[m as usize];
             std::cmp::Reverse([record[1], record[2], record[3]])
         });
-        let mut named = [[0; 2]; 3];
+        let mut groups = [[0; 128]; 3];
         let mut applying: [Vec<Set<W>>; 3] = Default::default();
         let mut holding: [Vec<Set<W>>; 3] = Default::default();
         for place in 0..places {
             let specialiser = |m: u16| methods[m as usize][1 + place];
             let declared = |m: u16| methods[m as usize][4 + place];
-            named[place] = [class_set(&order, specialiser), class_set(&order, declared)];
+            groups[place] = group(tables, class_set(&order, specialiser), class_set(&order, declared));
             applying[place] = above(tables, &order, specialiser);
             holding[place] = above(tables, &order, declared);
         }
@@ -91,7 +91,7 @@ impl<const W: usize> Function<W> {
                 (0..places).fold(all, |set, place| both(&set, &applying[place][record[1 + place] as usize]))
             })
             .collect();
-        Function { places, order, applying, holding, below, named, kept: Kept::new() }
+        Function { places, order, applying, holding, below, groups, kept: Kept::new() }
     }
 
     fn check(&mut self, tables: &Tables, number: usize, signature: &[u8; 5]) -> Result<(), Broken> {
@@ -114,15 +114,15 @@ impl<const W: usize> Function<W> {
 
     /// The concrete classes under a class, but of those that no method tells apart at this place only the lowest.
     fn tried(&self, tables: &Tables, place: usize, top: u8) -> Vec<u8> {
-        let mut seen = Seen::new();
-        let [specialisers, declared] = self.named[place];
+        let mut seen = 0u128;
         let mut concrete = tables.concrete;
         let mut tried = Vec::with_capacity(128);
         while concrete != 0 {
             let class = concrete.trailing_zeros() as u8;
             concrete &= concrete - 1;
-            let ancestors = tables.ancestors[class as usize];
-            if ancestors >> top & 1 == 1 && seen.insert([ancestors & specialisers, ancestors & declared]) {
+            let group = 1 << self.groups[place][class as usize];
+            if tables.under(class, top) && seen & group == 0 {
+                seen |= group;
                 tried.push(class);
             }
         }
@@ -262,32 +262,31 @@ fn has<const W: usize>(set: &Set<W>, bit: usize) -> bool {
     set[bit / 64] >> (bit % 64) & 1 == 1
 }
 
-/// Pairs of class sets that were seen, in a table of 256 slots for at most 128 pairs.
-struct Seen {
-    slots: [[u128; 2]; 256],
-    used: [bool; 256],
-}
-
-impl Seen {
-    fn new() -> Seen {
-        Seen { slots: [[0; 2]; 256], used: [false; 256] }
-    }
-
-    /// Whether the pair is new.
-    fn insert(&mut self, pair: [u128; 2]) -> bool {
-        let words = [pair[0] as u64, (pair[0] >> 64) as u64, pair[1] as u64, (pair[1] >> 64) as u64];
+/// Groups of the classes: two are in one group when they are under the same specialisers and the same declared classes.
+fn group(tables: &Tables, specialisers: u128, declared: u128) -> [u8; 128] {
+    let mut groups = [0; 128];
+    // Keys of the groups so far, by a hash table of 256 slots for at most 128 groups.
+    let mut keys = [[0u128; 2]; 128];
+    let mut slots = [NO_GROUP; 256];
+    let mut count = 0;
+    for (class, &ancestors) in tables.ancestors[..tables.classes].iter().enumerate() {
+        let key = [ancestors & specialisers, ancestors & declared];
+        let words = [key[0] as u64, (key[0] >> 64) as u64, key[1] as u64, (key[1] >> 64) as u64];
         let mut slot = (hash(words.into_iter()) >> 56) as usize;
-        while self.used[slot] {
-            if self.slots[slot] == pair {
-                return false;
-            }
+        while slots[slot] != NO_GROUP && keys[slots[slot] as usize] != key {
             slot = (slot + 1) % 256;
         }
-        self.used[slot] = true;
-        self.slots[slot] = pair;
-        true
+        if slots[slot] == NO_GROUP {
+            slots[slot] = count;
+            keys[count as usize] = key;
+            count += 1;
+        }
+        groups[class] = slots[slot];
     }
+    groups
 }
+
+const NO_GROUP: u8 = 255;
 
 fn hash(words: impl Iterator<Item = u64>) -> u64 {
     words.fold(0, |sofar: u64, word| (sofar.rotate_left(5) ^ word).wrapping_mul(0x517c_c1b7_2722_0a95))
