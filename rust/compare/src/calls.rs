@@ -147,11 +147,22 @@ impl Default for Comparer {
     }
 }
 
+/// How many differences are printed before the comparison gives up.
+const MOST_DIFFERENCES: usize = 10;
+
 impl Comparer {
+    /// Whether so many differences were printed that no more bundles are compared.
+    pub fn given_up(&self) -> bool {
+        self.tally.differences >= MOST_DIFFERENCES
+    }
+
     /// Makes the calls on one bundle. The check by `fast` is compared too.
     pub fn bundle(&mut self, bundle: &[u8], calls: &[Call], random: &mut Random) {
         self.tally.bundles += 1;
         for call in calls {
+            if self.given_up() {
+                return;
+            }
             let lent = Lent::choose(random);
             self.call(bundle, call, lent, random);
         }

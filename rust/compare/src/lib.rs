@@ -22,14 +22,11 @@ pub fn made_bundles(count: usize, comparer: &mut Comparer) {
     for number in 0..count {
         let (bytes, parts) = damage::bundle(&mut random, number);
         comparer.bundle(&bytes, &calls::choose(&mut calls, &bytes, &parts), &mut calls);
-        if comparer.tally.differences >= MOST_DIFFERENCES {
+        if comparer.given_up() {
             return;
         }
     }
 }
-
-/// How many differences are printed before the comparison gives up.
-pub const MOST_DIFFERENCES: usize = 10;
 
 /// Compares over given bundles: each as it is, then with each byte at values near the boundaries of its field, then cut
 /// at each length.
