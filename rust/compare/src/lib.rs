@@ -11,14 +11,13 @@ pub mod vectors;
 use builder::{Parts, Random};
 use calls::{Call, Comparer};
 
-/// Seeds of the bundles and of the calls on them.
-const BUNDLES: u64 = 0x6375_7269_756d;
+/// Added to a seed for the calls, so that they do not follow the numbers that made the bundles.
 const CALLS: u64 = 0x746f_6164;
 
-/// Compares over `count` made bundles.
-pub fn made_bundles(count: usize, comparer: &mut Comparer) {
-    let mut random = Random::new(BUNDLES);
-    let mut calls = Random::new(CALLS);
+/// Compares over `count` made bundles, which the seed determines.
+pub fn made_bundles(count: usize, seed: u64, comparer: &mut Comparer) {
+    let mut random = Random::new(seed);
+    let mut calls = Random::new(seed.wrapping_add(CALLS));
     for number in 0..count {
         let (bytes, parts) = damage::bundle(&mut random, number);
         comparer.bundle(&bytes, &calls::choose(&mut calls, &bytes, &parts), &mut calls);

@@ -1,5 +1,6 @@
-//! `compare [BUNDLES]` compares over the sample bundles and over so many made ones, 100,000 where none is said.
-//! `compare vectors FOLDER` holds both implementations to cases with expected answers.
+//! `compare [BUNDLES [SEED]]` compares over the sample bundles and over so many made ones, 100,000 where none is said. The
+//! seed is 1 where none is said, so that a run can be repeated. `compare vectors FOLDER` holds both implementations to
+//! cases with expected answers.
 
 use compare::calls::Comparer;
 use compare::{given_bundles, made_bundles, vectors};
@@ -10,21 +11,26 @@ const SAMPLES: &str = concat!(env!("CARGO_MANIFEST_DIR"), "/../../bundles");
 
 fn main() -> ExitCode {
     let words: Vec<String> = std::env::args().skip(1).collect();
-    match words.iter().map(String::as_str).collect::<Vec<_>>()[..] {
-        [] => compare(100_000),
-        ["vectors", folder] => vectors::compare(Path::new(folder)),
-        [count] if count.parse::<usize>().is_ok() => compare(count.parse().unwrap_or(0)),
+    let words: Vec<&str> = words.iter().map(String::as_str).collect();
+    if let ["vectors", folder] = words[..] {
+        return vectors::compare(Path::new(folder));
+    }
+    let numbers: Option<Vec<u64>> = words.iter().map(|word| word.parse().ok()).collect();
+    match numbers.as_deref() {
+        Some([]) => compare(100_000, 1),
+        Some([count]) => compare(*count, 1),
+        Some([count, seed]) => compare(*count, *seed),
         _ => {
-            eprintln!("usage: compare [BUNDLES] | compare vectors FOLDER");
+            eprintln!("usage: compare [BUNDLES [SEED]] | compare vectors FOLDER");
             ExitCode::from(2)
         }
     }
 }
 
-fn compare(count: usize) -> ExitCode {
+fn compare(count: u64, seed: u64) -> ExitCode {
     let mut comparer = Comparer::default();
     given_bundles(&samples(), &mut comparer);
-    made_bundles(count, &mut comparer);
+    made_bundles(count as usize, seed, &mut comparer);
     print!("{}", comparer.tally);
     let never = comparer.tally.never_seen();
     if !never.is_empty() {
