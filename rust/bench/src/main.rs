@@ -1,0 +1,215 @@
+//! Measures the library and its peers on the same bundles and prints a table. A time is processor time of one call, the
+//! median of several repetitions; a ratio is the library's time by the peer's. `bench WORD` measures only the cases whose
+//! names have the word.
+
+mod bundles;
+mod clock;
+
+use curiumtoad::raw;
+use std::hint::black_box;
+use std::time::Duration;
+
+type Reply = (u8, [u32; 8]);
+
+/// One line of the table: the same calls by the library and by the peers that have them.
+struct Case {
+    name: &'static str,
+    library: Call,
+    plain: Option<Call>,
+    fast: Option<Call>,
+    /// The number and first value that every call has to give.
+    expected: (u8, Option<u32>),
+}
+
+type Call = Box<dyn FnMut() -> Reply>;
+
+fn main() {
+    println!("| case | library | plain | fast | library / plain | library / fast |");
+    println!("|---|---:|---:|---:|---:|---:|");
+    let word = std::env::args().nth(1).unwrap_or_default();
+    for mut case in cases().into_iter().filter(|case| case.name.contains(&word)) {
+        line(&mut case);
+    }
+}
+
+fn cases() -> Vec<Case> {
+    vec![
+        open_case("open the largest bundle, 65,535 bytes", bundles::largest()),
+        ancestry_case("ancestry: 128 classes of three parents", bundles::classes()),
+        lookup_case("lookup among 512 methods", bundles::many_methods(false)),
+        check_case("check 2,097,152 tuples, 5 methods, accepted", bundles::few_methods(false), 0),
+        check_case("check 2,097,152 tuples, 7 methods, last one broken", bundles::few_methods(true), 11),
+        check_case("check 2,097,152 tuples, 512 methods, accepted", bundles::many_methods(false), 0),
+        check_case("check 2,097,152 tuples, 512 methods, last one broken", bundles::many_methods(true), 11),
+        without_plain(check_case("check 2,097,152 tuples, 382 methods in a line, accepted", bundles::chain(), 0)),
+        check_case("check a department: 40, 10, 60, 120 records", bundles::department(), 0),
+        run_case("run of 10,000,000 steps", bundles::long_run()),
+    ]
+}
+
+fn open_case(name: &'static str, bundle: Vec<u8>) -> Case {
+    let [a, b, c] = [bundle.clone(), bundle.clone(), bundle];
+    Case {
+        name,
+        library: Box::new(move || by_library(|values| raw::open(black_box(&a), values))),
+        plain: Some(Box::new(move || by_plain(plain::open(black_box(&b))))),
+        fast: Some(Box::new(move || by_library(|values| fast::open(black_box(&c), values)))),
+        expected: (0, Some(128)),
+    }
+}
+
+fn ancestry_case(name: &'static str, bundle: Vec<u8>) -> Case {
+    let [a, b] = [bundle.clone(), bundle];
+    let (mut scratch_1, mut scratch_2) = ([0; plain::SCRATCH], [0; plain::SCRATCH]);
+    Case {
+        name,
+        library: Box::new(move || by_library(|values| raw::ancestry(black_box(&a), &mut scratch_1, 127, 0, values))),
+        plain: Some(Box::new(move || by_plain(plain::ancestry(black_box(&b), &mut scratch_2, 127, 0)))),
+        fast: None,
+        expected: (0, Some(1)),
+    }
+}
+
+/// One call is one lookup; the tuple changes from call to call.
+fn lookup_case(name: &'static str, bundle: Vec<u8>) -> Case {
+    let [a, b] = [bundle.clone(), bundle];
+    let (mut scratch_1, mut scratch_2) = ([0; plain::SCRATCH], [0; plain::SCRATCH]);
+    let (mut tuple_1, mut tuple_2) = ([0; 3], [0; 3]);
+    Case {
+        name,
+        library: Box::new(move || {
+            tuple_1 = next(tuple_1);
+            by_library(|values| raw::lookup(black_box(&a), &mut scratch_1, 0, tuple_1, values))
+        }),
+        plain: Some(Box::new(move || {
+            tuple_2 = next(tuple_2);
+            by_plain(plain::lookup(black_box(&b), &mut scratch_2, 0, tuple_2))
+        })),
+        fast: None,
+        expected: (0, None),
+    }
+}
+
+fn next([a, b, c]: [u32; 3]) -> [u32; 3] {
+    [(a + 1) % 128, (b + 1 + a / 127) % 128, (c + 3) % 128]
+}
+
+fn check_case(name: &'static str, bundle: Vec<u8>, number: u8) -> Case {
+    let [a, b, c] = [bundle.clone(), bundle.clone(), bundle];
+    let [mut scratch_1, mut scratch_2, mut scratch_3] = [[0; plain::SCRATCH]; 3];
+    Case {
+        name,
+        library: Box::new(move || by_library(|values| raw::check(black_box(&a), &mut scratch_1, values))),
+        plain: Some(Box::new(move || by_plain(plain::check(black_box(&b), &mut scratch_2)))),
+        fast: Some(Box::new(move || by_library(|values| fast::check(black_box(&c), &mut scratch_3, values)))),
+        expected: (number, Some(0)),
+    }
+}
+
+/// Leaves `plain` out where it would take minutes.
+fn without_plain(case: Case) -> Case {
+    Case { plain: None, ..case }
+}
+
+fn run_case(name: &'static str, bundle: Vec<u8>) -> Case {
+    const COUNT: u32 = 10_000_000;
+    let [a, b] = [bundle.clone(), bundle];
+    let (mut scratch_1, mut scratch_2) = ([0; plain::SCRATCH], [0; plain::SCRATCH]);
+    let arguments = [1, 2, 0];
+    Case {
+        name,
+        library: Box::new(move || {
+            by_library(|values| raw::run(black_box(&a), &mut scratch_1, 0, arguments, COUNT, values))
+        }),
+        plain: Some(Box::new(move || by_plain(plain::run(black_box(&b), &mut scratch_2, 0, arguments, COUNT)))),
+        fast: None,
+        // Spent.
+        expected: (0, Some(1)),
+    }
+}
+
+fn by_library(call: impl FnOnce(&mut [u32; 8]) -> u8) -> Reply {
+    let mut values = [0; 8];
+    (call(&mut values), values)
+}
+
+fn by_plain(reply: plain::Reply) -> Reply {
+    (reply.number, reply.values)
+}
+
+/// Holds the peers to the same answer, measures them in turns, so that what disturbs one disturbs all, and prints them.
+fn line(case: &mut Case) {
+    let mut peers = [Some(&mut case.library), case.plain.as_mut(), case.fast.as_mut()];
+    let mut times: [Vec<Duration>; 3] = Default::default();
+    let mut counts = [1; 3];
+    let mut said = Vec::new();
+    for (peer, call) in peers.iter_mut().enumerate() {
+        if let Some(call) = call {
+            let start = clock::now();
+            said.push(call());
+            let first = clock::now() - start;
+            counts[peer] = calls_for_a_repetition(call, first);
+            if first >= VERY_LONG {
+                times[peer].push(first);
+            }
+        }
+    }
+    assert!(said.iter().all(|reply| *reply == said[0]), "{}: the peers differ", case.name);
+    assert_eq!(said[0].0, case.expected.0, "{}", case.name);
+    assert!(case.expected.1.is_none_or(|first| first == said[0].1[0]), "{}", case.name);
+    for _ in 0..REPETITIONS {
+        for (peer, call) in peers.iter_mut().enumerate() {
+            if let Some(call) = call.as_mut().filter(|_| counts[peer] > 0) {
+                times[peer].push(time(call, counts[peer]));
+            }
+        }
+    }
+    let [library, plain, fast] = times.map(median);
+    let shown = |time: Option<f64>| time.map_or(String::new(), show);
+    let ratio = |peer: Option<f64>| match (library, peer) {
+        (Some(library), Some(peer)) => format!("{:.2}", library / peer),
+        _ => String::new(),
+    };
+    let (of_plain, of_fast) = (ratio(plain), ratio(fast));
+    println!("| {} | {} | {} | {} | {of_plain} | {of_fast} |", case.name, shown(library), shown(plain), shown(fast));
+}
+
+const REPETITIONS: usize = 11;
+/// What takes longer than this is measured once.
+const VERY_LONG: Duration = Duration::from_secs(4);
+/// How long a repetition takes at least.
+const ENOUGH: Duration = Duration::from_millis(20);
+
+/// How many calls make a repetition, given the time of a first one: none where that was very long.
+fn calls_for_a_repetition(call: &mut Call, first: Duration) -> u32 {
+    if first >= VERY_LONG {
+        return 0;
+    }
+    let mut count = 1;
+    while count < 1 << 20 && time(call, count) * count < ENOUGH {
+        count *= 2;
+    }
+    count
+}
+
+/// The time of one call, over so many.
+fn time(call: &mut Call, count: u32) -> Duration {
+    let start = clock::now();
+    for _ in 0..count {
+        black_box(call());
+    }
+    (clock::now() - start) / count
+}
+
+fn median(mut times: Vec<Duration>) -> Option<f64> {
+    times.sort_unstable();
+    times.get(times.len() / 2).map(Duration::as_secs_f64)
+}
+
+fn show(seconds: f64) -> String {
+    match seconds {
+        s if s >= 1.0 => format!("{s:.2} s"),
+        s if s >= 1e-3 => format!("{:.2} ms", s * 1e3),
+        s => format!("{:.2} µs", s * 1e6),
+    }
+}

@@ -1,0 +1,46 @@
+//! The chart bundles of document 01.
+
+use crate::{Parts, NEW, SEND};
+
+/// Refused by 11: two methods apply to (2, 4) and neither leads.
+pub fn chart_3() -> Parts {
+    let mut parts = Parts::default();
+    parts.class(false, &[]); // 0 Any
+    parts.class(true, &[0]); // 1 Session
+    parts.class(true, &[1]); // 2 Lapsed
+    parts.class(true, &[0]); // 3 Bench
+    parts.class(true, &[3]); // 4 SharedBench
+    parts.class(false, &[0]); // 5 Outcome
+    parts.class(true, &[5]); // 6 Armed
+    parts.class(true, &[5]); // 7 Denied
+    let arm = parts.function(2);
+    parts.signature(arm, [1, 3, 0], 5);
+    parts.method(arm, [1, 4, 0], 6, &[[NEW, 6]]);
+    parts.method(arm, [2, 3, 0], 7, &[[NEW, 7]]);
+    parts.method(arm, [1, 3, 0], 6, &[[NEW, 6]]);
+    parts
+}
+
+/// Accepted: a fourth method settles that send.
+pub fn chart_4() -> Parts {
+    let mut parts = chart_3();
+    parts.method(0, [2, 4, 0], 7, &[[NEW, 7]]);
+    parts
+}
+
+/// Accepted, with a second and narrower signature.
+pub fn chart_5() -> Parts {
+    let mut parts = chart_4();
+    parts.signature(0, [2, 3, 0], 7);
+    parts
+}
+
+/// Accepted: a method that sends its own function.
+pub fn looping() -> Parts {
+    let mut parts = Parts::default();
+    parts.class(true, &[]);
+    let again = parts.function(0);
+    parts.signature(again, [0; 3], 0);
+    parts.method(again, [0; 3], 0, &[[SEND, again]]);
+    parts
+}

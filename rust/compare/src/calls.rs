@@ -1,0 +1,385 @@
+//! Calls, made on both implementations with the same bytes in every buffer.
+
+use crate::tally::Tally;
+use builder::{hex, Parts, Random};
+use curiumtoad::{raw, Answer};
+use std::ops::Range;
+
+/// A call of an entry point, but for its buffers.
+#[derive(Clone, Copy, Debug)]
+pub enum Call {
+    Open,
+    Ancestry(u32, u32),
+    Lookup(u32, [u32; 3]),
+    SendType(u32, [u32; 3]),
+    Check,
+    Witness(u32, [u32; 3]),
+    Body(u32),
+    Run(u32, [u32; 3], u32),
+    RunAccepted(u32, [u32; 3], u32),
+}
+
+impl Call {
+    fn name(&self) -> &'static str {
+        match self {
+            Call::Open => "open",
+            Call::Ancestry(..) => "ancestry",
+            Call::Lookup(..) => "lookup",
+            Call::SendType(..) => "send_type",
+            Call::Check => "check",
+            Call::Witness(..) => "witness",
+            Call::Body(..) => "body",
+            Call::Run(..) => "run",
+            Call::RunAccepted(..) => "run_accepted",
+        }
+    }
+
+    /// The call by the plain implementation.
+    pub fn by_plain(&self, bundle: &[u8], scratch: &mut [u8], row: &mut [u8]) -> plain::Reply {
+        match *self {
+            Call::Open => plain::open(bundle),
+            Call::Ancestry(a, b) => plain::ancestry(bundle, scratch, a, b),
+            Call::Lookup(function, arguments) => plain::lookup(bundle, scratch, function, arguments),
+            Call::SendType(function, arguments) => plain::send_type(bundle, scratch, row, function, arguments),
+            Call::Check => plain::check(bundle, scratch),
+            Call::Witness(signature, arguments) => plain::witness(bundle, scratch, signature, arguments),
+            Call::Body(method) => plain::body(bundle, method),
+            Call::Run(function, arguments, count) => plain::run(bundle, scratch, function, arguments, count),
+            Call::RunAccepted(function, arguments, count) => {
+                plain::run_accepted(bundle, scratch, function, arguments, count)
+            }
+        }
+    }
+
+    /// The call by the library, as numbers.
+    pub fn by_library(&self, bundle: &[u8], scratch: &mut [u8], row: &mut [u8], values: &mut raw::Values) -> u8 {
+        match *self {
+            Call::Open => raw::open(bundle, values),
+            Call::Ancestry(a, b) => raw::ancestry(bundle, scratch, a, b, values),
+            Call::Lookup(function, arguments) => raw::lookup(bundle, scratch, function, arguments, values),
+            Call::SendType(function, arguments) => raw::send_type(bundle, scratch, row, function, arguments, values),
+            Call::Check => raw::check(bundle, scratch, values),
+            Call::Witness(signature, arguments) => raw::witness(bundle, scratch, signature, arguments, values),
+            Call::Body(method) => raw::body(bundle, method, values),
+            Call::Run(function, arguments, count) => raw::run(bundle, scratch, function, arguments, count, values),
+            Call::RunAccepted(function, arguments, count) => {
+                raw::run_accepted(bundle, scratch, function, arguments, count, values)
+            }
+        }
+    }
+
+    /// A reply of this call as the wrapper's answer, and that answer as a reply again.
+    fn through_the_wrapper(&self, reply: curiumtoad::Reply) -> curiumtoad::Reply {
+        fn there_and_back<A: Answer>(reply: curiumtoad::Reply) -> curiumtoad::Reply {
+            A::of(reply).reply()
+        }
+        match self {
+            Call::Open => there_and_back::<Result<curiumtoad::Counts, curiumtoad::Refusal>>(reply),
+            Call::Ancestry(..) => there_and_back::<Result<bool, curiumtoad::Refusal>>(reply),
+            Call::Lookup(..) => there_and_back::<curiumtoad::Lookup>(reply),
+            Call::SendType(..) => there_and_back::<curiumtoad::SendType>(reply),
+            Call::Check => there_and_back::<curiumtoad::Verdict>(reply),
+            Call::Witness(..) => there_and_back::<curiumtoad::Witness>(reply),
+            Call::Body(..) => there_and_back::<Result<Range<usize>, curiumtoad::Refusal>>(reply),
+            Call::Run(..) => there_and_back::<curiumtoad::Run>(reply),
+            Call::RunAccepted(..) => there_and_back::<curiumtoad::AcceptedRun>(reply),
+        }
+    }
+}
+
+/// Lengths of the lent buffers of a call, and where the buffers begin in their stores.
+#[derive(Clone, Copy, Debug)]
+struct Lent {
+    scratch: usize,
+    row: usize,
+    start: usize,
+}
+
+impl Lent {
+    fn choose(random: &mut Random) -> Lent {
+        let scratch = match random.below(16) {
+            0 => random.of(&[0, 1, 127, 128, 16_128, 16_256, 16_383]),
+            1 => random.below(plain::SCRATCH),
+            2..=9 => plain::SCRATCH,
+            _ => plain::SCRATCH + random.within(1, 200),
+        };
+        let row = match random.below(16) {
+            0 => random.of(&[0, 1, 64, 127]),
+            1 => random.below(plain::ROW),
+            2..=8 => plain::ROW,
+            _ => plain::ROW + random.within(1, 200),
+        };
+        Lent { scratch, row, start: random.below(17) }
+    }
+}
+
+/// A store of bytes of which a part is lent; the bytes around the part have to stay.
+struct Store {
+    bytes: Vec<u8>,
+    lent: Range<usize>,
+}
+
+impl Store {
+    /// A part at `start` that holds the given bytes, with some bytes before and after it.
+    fn holding(part: &[u8], start: usize) -> Store {
+        let mut bytes = vec![0xa5; start];
+        bytes.extend(part);
+        bytes.extend([0x5a; 24]);
+        Store { bytes, lent: start..start + part.len() }
+    }
+
+    fn part(&mut self) -> &mut [u8] {
+        &mut self.bytes[self.lent.clone()]
+    }
+}
+
+/// Makes calls on both implementations, counts them, and prints where they differ.
+pub struct Comparer {
+    pub tally: Tally,
+    noise: Vec<u8>,
+}
+
+impl Default for Comparer {
+    fn default() -> Self {
+        let mut random = Random::new(1);
+        let noise = (0..1 << 20).map(|_| random.byte()).collect();
+        Comparer { tally: Tally::default(), noise }
+    }
+}
+
+/// How many differences are printed before the comparison gives up.
+const MOST_DIFFERENCES: usize = 10;
+
+impl Comparer {
+    /// Whether so many differences were printed that no more bundles are compared.
+    pub fn given_up(&self) -> bool {
+        self.tally.differences >= MOST_DIFFERENCES
+    }
+
+    /// Makes the calls on one bundle. The check by `fast` is compared too.
+    pub fn bundle(&mut self, bundle: &[u8], calls: &[Call], random: &mut Random) {
+        self.tally.bundles += 1;
+        for call in calls {
+            if self.given_up() {
+                return;
+            }
+            let lent = Lent::choose(random);
+            self.call(bundle, call, lent, random);
+        }
+        let number = self.fast(bundle, random);
+        self.tally.checks[number as usize] += 1;
+    }
+
+    fn noise(&self, length: usize, random: &mut Random) -> &[u8] {
+        let start = random.below(self.noise.len() - length);
+        &self.noise[start..start + length]
+    }
+
+    fn call(&mut self, bundle: &[u8], call: &Call, lent: Lent, random: &mut Random) {
+        let mut scratch = Store::holding(self.noise(lent.scratch, random), lent.start);
+        let mut row = Store::holding(self.noise(lent.row, random), lent.start);
+        let mut scratch_2 = Store::holding(scratch.part(), lent.start);
+        let mut row_2 = Store::holding(row.part(), lent.start);
+        let mut bundle_2 = Store::holding(bundle, lent.start);
+
+        let expected = call.by_plain(bundle, scratch.part(), row.part());
+        let mut values = [random.bits() as u32; 8];
+        let number = call.by_library(bundle_2.part(), scratch_2.part(), row_2.part(), &mut values);
+        self.tally.count(call.name(), expected.number);
+        if expected.number == 0 && matches!(call, Call::Run(..) | Call::RunAccepted(..)) {
+            self.tally.count_run(expected.values);
+        }
+
+        let mut different = Vec::new();
+        if (expected.number, expected.values) != (number, values) {
+            different.push("the reply");
+        } else {
+            let reply = curiumtoad::Reply { number, values };
+            if call.through_the_wrapper(reply) != reply {
+                different.push("the wrapper's answer");
+            }
+        }
+        if scratch.bytes != scratch_2.bytes {
+            different.push("the scratch");
+        }
+        if row.bytes != row_2.bytes {
+            different.push("the row");
+        }
+        if bundle_2.bytes != Store::holding(bundle, lent.start).bytes {
+            different.push("the bundle");
+        }
+        if !different.is_empty() {
+            self.tally.differences += 1;
+            println!("different: {} of {call:?} with {lent:?}", different.join(", "));
+            println!("  plain gives {} {:?}", expected.number, expected.values);
+            println!("  the library gives {number} {values:?}");
+            println!("  bundle {}", hex(bundle));
+        }
+    }
+
+    /// Compares opening and check by `fast` with the plain ones, and gives the number of the check.
+    fn fast(&mut self, bundle: &[u8], random: &mut Random) -> u8 {
+        let mut scratch = self.noise(plain::SCRATCH + 40, random).to_vec();
+        let mut scratch_2 = scratch.clone();
+        let (mut opened, mut checked) = ([9; 8], [9; 8]);
+        let open = plain::Reply { number: fast::open(bundle, &mut opened), values: opened };
+        let check = plain::Reply { number: fast::check(bundle, &mut scratch_2, &mut checked), values: checked };
+        let (expected_open, expected) = (plain::open(bundle), plain::check(bundle, &mut scratch));
+        if open != expected_open || check != expected || scratch != scratch_2 {
+            self.tally.differences += 1;
+            println!("different: plain gives {expected_open:?} {expected:?}, fast {open:?} {check:?}");
+            println!("  bundle {}", hex(bundle));
+        }
+        expected.number
+    }
+}
+
+/// Chooses calls for a bundle. The parts say which numbers are of interest; the bundle may have been damaged since.
+pub fn choose(random: &mut Random, bundle: &[u8], parts: &Parts) -> Vec<Call> {
+    let mut calls = vec![Call::Open, Call::Check];
+    let chooser = &mut Chooser { random, parts };
+    for _ in 0..2 {
+        calls.push(Call::Body(chooser.number(parts.methods.len())));
+        calls.push(Call::Ancestry(chooser.number(parts.classes.len()), chooser.number(parts.classes.len())));
+        let (signature, tuple) = chooser.covered();
+        calls.push(Call::Witness(signature, tuple));
+    }
+    for _ in 0..3 {
+        let (function, tuple) = chooser.send();
+        calls.push(Call::Lookup(function, tuple));
+        let (function, tuple) = chooser.send();
+        calls.push(Call::SendType(function, tuple));
+        let (function, tuple) = chooser.send();
+        let count = chooser.count(bundle, function, tuple);
+        calls.push(Call::Run(function, tuple, count));
+    }
+    let (function, tuple) = chooser.send();
+    let count = chooser.count(bundle, function, tuple);
+    calls.push(Call::RunAccepted(function, tuple, count));
+    calls
+}
+
+struct Chooser<'a> {
+    random: &'a mut Random,
+    parts: &'a Parts,
+}
+
+impl Chooser<'_> {
+    /// A number below the count, or, once in a while, one that is absent, also where its low byte or half is not.
+    fn number(&mut self, count: usize) -> u32 {
+        if count != 0 && !self.random.once_in(24) {
+            return self.random.below(count) as u32;
+        }
+        let count = count as u32;
+        let within = if count == 0 { 0 } else { self.random.below(count as usize) as u32 };
+        let absent = [count, count + 1, within + 256, within + 65_536, 127, 128, 255, 512, u32::MAX, u32::MAX - 255];
+        self.random.of(&absent)
+    }
+
+    /// A class under another, concrete if a few tries find one; or, once in a while, any class.
+    fn class_under(&mut self, top: u8) -> u32 {
+        if self.random.once_in(12) {
+            return self.number(self.parts.classes.len());
+        }
+        let mut class = self.walk_down(top);
+        for _ in 0..3 {
+            if !self.parts.classes.get(class).is_some_and(|found| found.concrete) {
+                class = self.walk_down(top);
+            }
+        }
+        class as u32
+    }
+
+    fn walk_down(&mut self, top: u8) -> usize {
+        let mut class = top as usize;
+        for lower in class + 1..self.parts.classes.len() {
+            if self.parts.classes[lower].parents.contains(&(class as u8)) && self.random.once_in(2) {
+                class = lower;
+            }
+        }
+        class
+    }
+
+    fn tuple(&mut self, function: u8, tops: [u8; 3]) -> [u32; 3] {
+        let places = self.parts.functions.get(function as usize).copied().unwrap_or(3) as usize;
+        let mut tuple = [0; 3];
+        for place in 0..3 {
+            if place < places {
+                tuple[place] = self.class_under(tops[place]);
+            } else if self.random.once_in(40) {
+                tuple[place] = self.number(self.parts.classes.len());
+            }
+        }
+        tuple
+    }
+
+    /// A signature and a tuple that it likely covers.
+    fn covered(&mut self) -> (u32, [u32; 3]) {
+        let number = self.number(self.parts.signatures.len());
+        match self.parts.signatures.get(number as usize) {
+            None => (number, [self.random.below(3) as u32, 0, 0]),
+            Some(signature) => (number, self.tuple(signature.function, signature.arguments)),
+        }
+    }
+
+    /// A function and classes: those of a signature, of a method, or any.
+    fn send(&mut self) -> (u32, [u32; 3]) {
+        let parts = self.parts;
+        let kind = self.random.below(8);
+        if kind < 4 && !parts.signatures.is_empty() {
+            let signature = &parts.signatures[self.random.below(parts.signatures.len())];
+            return (signature.function as u32, self.tuple(signature.function, signature.arguments));
+        }
+        if kind < 7 && !parts.methods.is_empty() {
+            let method = &parts.methods[self.random.below(parts.methods.len())];
+            return (method.function as u32, self.tuple(method.function, method.specialisers));
+        }
+        let function = self.number(parts.functions.len());
+        (function, self.tuple(function as u8, [0; 3]))
+    }
+
+    /// A step count: any small one, or the greatest where the run is known to end.
+    fn count(&mut self, bundle: &[u8], function: u32, tuple: [u32; 3]) -> u32 {
+        let small = [0, 1, 2, 3, 4, 5, 7, 10, 20, 31, 32, 33, 60, 100, 300, 1000, 3000];
+        if !self.random.once_in(4) {
+            return self.random.of(&small);
+        }
+        let reply = plain::run(bundle, &mut [0; plain::SCRATCH], function, tuple, 5000);
+        let spent = reply.number == 0 && reply.values[0] == 1;
+        match self.random.below(3) {
+            _ if spent => 5000,
+            0 => u32::MAX,
+            // The steps of the run itself, one fewer, and one more.
+            1 => reply.values[7].saturating_sub(1),
+            _ => reply.values[7] + self.random.below(2) as u32,
+        }
+    }
+}
+
+/// Every call with every small number, on a bundle of few records.
+pub fn every(bundle: &[u8]) -> Vec<Call> {
+    let counts = plain::open(bundle).values.map(|count| count.min(9));
+    let classes = counts[0] + 1;
+    let mut calls = vec![Call::Open, Call::Check];
+    calls.extend((0..=counts[3]).chain([255, 256, u32::MAX]).map(Call::Body));
+    for a in (0..classes).chain([128, u32::MAX]) {
+        calls.extend((0..classes).chain([128, u32::MAX]).map(|b| Call::Ancestry(a, b)));
+    }
+    let mut tuples = Vec::new();
+    for a in 0..classes {
+        for b in 0..classes {
+            tuples.extend([[a, b, 0], [a, b, 1]]);
+        }
+    }
+    tuples.extend([[u32::MAX, 0, 0], [0, u32::MAX, 0], [0, 0, u32::MAX], [256, 0, 0], [0, 65_536, 0]]);
+    for tuple in tuples {
+        calls.extend((0..=counts[2]).map(|signature| Call::Witness(signature, tuple)));
+        for function in 0..=counts[1] {
+            calls.extend([Call::Lookup(function, tuple), Call::SendType(function, tuple)]);
+            for count in [0, 1, 2, 31, 32, 33, u32::MAX] {
+                calls.extend([Call::Run(function, tuple, count), Call::RunAccepted(function, tuple, count)]);
+            }
+        }
+    }
+    calls
+}

@@ -1,0 +1,349 @@
+//! Bundles that open: of many sizes and shapes, and often repaired until the check accepts them.
+
+use builder::{Method, Parts, Random, ARG, NEW, SEND};
+
+/// How many tuples a check of the bundle may have to try, times methods, so that no bundle takes long.
+const WORK: usize = 60_000;
+const MUCH_WORK: usize = 6_000_000;
+
+/// A bundle that opens.
+pub fn parts(random: &mut Random, number: usize) -> Parts {
+    let work = if number % 400 == 7 { MUCH_WORK } else { WORK };
+    loop {
+        let mut parts = drawn(random);
+        let repairs = random.of(&[0, 0, 1, 3, 200, 200, 200, 200]);
+        if within(&parts, work) && repair(&mut parts, random, repairs, work) {
+            if repairs == 200 && random.once_in(3) {
+                spoil(&mut parts, random);
+            }
+            if within(&parts, work) {
+                return parts;
+            }
+        }
+    }
+}
+
+/// Whether the bundle's bytes fit and its check stays within the work.
+fn within(parts: &Parts, work: usize) -> bool {
+    let above = ancestors(parts);
+    let mut sum = 0;
+    for signature in &parts.signatures {
+        let places = parts.functions[signature.function as usize] as usize;
+        let tuples: usize = (0..places)
+            .map(|place| {
+                (0..parts.classes.len())
+                    .filter(|&class| {
+                        parts.classes[class].concrete && above[class] >> signature.arguments[place] & 1 == 1
+                    })
+                    .count()
+            })
+            .product();
+        sum += tuples * (1 + parts.methods.len());
+    }
+    let code: usize = parts.methods.iter().map(|method| 12 + 2 * method.body.len()).sum();
+    let parents: usize = parts.classes.iter().map(|class| 6 + class.parents.len()).sum();
+    sum <= work && code + parents + 5 * parts.signatures.len() + 200 <= 65_535
+}
+
+/// For each class the set of classes it is under.
+fn ancestors(parts: &Parts) -> Vec<u128> {
+    let mut sets: Vec<u128> = Vec::new();
+    for (number, class) in parts.classes.iter().enumerate() {
+        sets.push(class.parents.iter().fold(1 << number, |set, &parent| set | sets[parent as usize]));
+    }
+    sets
+}
+
+fn drawn(random: &mut Random) -> Parts {
+    let mut parts = Parts::default();
+    draw_classes(&mut parts, random);
+    let functions = match random.below(20) {
+        0 => 0,
+        1 => random.within(6, 64),
+        _ => random.within(1, 5),
+    };
+    for _ in 0..functions {
+        parts.function(random.of(&[0, 1, 1, 2, 2, 2, 3, 3]));
+    }
+    if functions == 0 {
+        return parts;
+    }
+    let signatures = match random.below(20) {
+        0 => 0,
+        1 => random.within(20, 256),
+        _ => random.within(1, 2 * functions.min(6)),
+    };
+    for _ in 0..signatures {
+        let function = random.below(functions) as u8;
+        let arguments = places(&parts, random, function);
+        let result = general(&parts, random);
+        parts.signature(function, arguments, result);
+    }
+    let methods = match random.below(40) {
+        0 => 0,
+        1 => random.within(60, 512),
+        _ => random.within(1, 4 * functions.min(8)),
+    };
+    for _ in 0..methods {
+        draw_method(&mut parts, random);
+    }
+    parts
+}
+
+fn draw_classes(parts: &mut Parts, random: &mut Random) {
+    let count = match random.below(20) {
+        0..=7 => random.within(1, 6),
+        8..=16 => random.within(3, 14),
+        17..=18 => random.within(10, 40),
+        _ => random.within(80, 128),
+    };
+    let shape = random.below(6);
+    let abstracts = random.of(&[0, 1, 2, 3, 6]);
+    for number in 0..count {
+        let concrete = random.below(7) >= abstracts;
+        let mut parents: Vec<u8> = Vec::new();
+        if number > 0 {
+            let several = match shape {
+                0 => 1,
+                1 => 2,
+                2 => random.within(1, 3),
+                3 => random.of(&[1, 1, 1, 2]),
+                4 => random.within(1, number.min(6)),
+                _ => 1,
+            };
+            for _ in 0..several {
+                let parent = match shape {
+                    // A chain with a few branches.
+                    5 => number - 1 - random.below(2).min(number - 1),
+                    // Diamonds: parents near by.
+                    1 => number - 1 - random.below(number.min(3)),
+                    _ => random.below(number),
+                };
+                parents.push(parent as u8);
+            }
+            if random.once_in(200) {
+                parents = (0..number as u8).collect();
+            }
+            parents.sort_unstable();
+            parents.dedup();
+        }
+        parts.class(concrete, &parents);
+    }
+}
+
+/// A class, low ones more often, since more classes are under them.
+fn general(parts: &Parts, random: &mut Random) -> u8 {
+    let count = parts.classes.len();
+    random.below(random.clone().below(count) + 1) as u8
+}
+
+/// A general class at each used place.
+fn places(parts: &Parts, random: &mut Random, function: u8) -> [u8; 3] {
+    let mut triple = [0; 3];
+    for class in &mut triple[..parts.functions[function as usize] as usize] {
+        *class = general(parts, random);
+    }
+    triple
+}
+
+/// Adds a method, unless it would be a twin.
+fn draw_method(parts: &mut Parts, random: &mut Random) {
+    let function = random.below(parts.functions.len()) as u8;
+    let mut specialisers = places(parts, random, function);
+    let of_function: Vec<usize> =
+        (0..parts.signatures.len()).filter(|&s| parts.signatures[s].function == function).collect();
+    let mut result = general(parts, random);
+    if !of_function.is_empty() && random.once_in(2) {
+        let signature = &parts.signatures[random.of(&of_function)];
+        if random.once_in(2) {
+            specialisers = signature.arguments;
+        }
+        result = signature.result;
+    }
+    let mut declared = specialisers;
+    let places = parts.functions[function as usize] as usize;
+    for class in &mut declared[..places] {
+        match random.below(12) {
+            0 => *class = 0,
+            1 => *class = general(parts, random),
+            2 => *class = parts.classes[*class as usize].parents.first().copied().unwrap_or(0),
+            _ => {}
+        }
+    }
+    let body = body(parts, random, function, result);
+    add_method(parts, Method { function, specialisers, declared, result, body });
+}
+
+/// Adds a method where there is room for one and it has no twin; says whether it did.
+fn add_method(parts: &mut Parts, method: Method) -> bool {
+    let twin = parts
+        .methods
+        .iter()
+        .any(|other| other.function == method.function && other.specialisers == method.specialisers);
+    if twin || parts.methods.len() == 512 {
+        return false;
+    }
+    parts.methods.push(method);
+    true
+}
+
+/// A body: NEW of a fitting class, an expression of any depth, or instructions without regard to the stack.
+fn body(parts: &Parts, random: &mut Random, function: u8, result: u8) -> Vec<[u8; 2]> {
+    let mut body = Vec::new();
+    match random.below(10) {
+        0..=3 => body.push([NEW, fitting(parts, random, result)]),
+        4..=8 => {
+            let budget = random.of(&[2, 5, 10, 20, 64]);
+            expression(parts, random, function, result, budget, &mut body);
+        }
+        _ => {
+            for _ in 0..random.within(1, 12) {
+                let instruction = leaf(parts, random, function, result);
+                body.push(if random.once_in(3) {
+                    [SEND, random.below(parts.functions.len()) as u8]
+                } else {
+                    instruction
+                });
+            }
+        }
+    }
+    body.truncate(64);
+    body
+}
+
+/// A concrete class under another, or any class where there is none.
+fn fitting(parts: &Parts, random: &mut Random, result: u8) -> u8 {
+    let above = ancestors(parts);
+    let fit: Vec<usize> = (0..parts.classes.len())
+        .filter(|&class| parts.classes[class].concrete && above[class] >> result & 1 == 1)
+        .collect();
+    if fit.is_empty() || random.once_in(60) {
+        return random.below(parts.classes.len()) as u8;
+    }
+    random.of(&fit) as u8
+}
+
+fn leaf(parts: &Parts, random: &mut Random, function: u8, result: u8) -> [u8; 2] {
+    let arguments = parts.functions[function as usize] as usize;
+    if arguments > 0 && random.once_in(2) {
+        return [ARG, random.below(arguments) as u8];
+    }
+    [NEW, fitting(parts, random, result)]
+}
+
+/// Instructions that leave one value: a send of values that fit a signature, or one ARG or NEW.
+fn expression(parts: &Parts, random: &mut Random, function: u8, result: u8, budget: usize, body: &mut Vec<[u8; 2]>) {
+    if budget < 2 || parts.signatures.is_empty() || random.once_in(6) {
+        body.push(leaf(parts, random, function, result));
+        return;
+    }
+    let signature = &parts.signatures[random.below(parts.signatures.len())];
+    let places = parts.functions[signature.function as usize] as usize;
+    for &class in &signature.arguments[..places] {
+        expression(parts, random, function, class, (budget - 1) / places, body);
+    }
+    body.push([SEND, signature.function]);
+}
+
+/// Repairs what the check finds, at most `times` times. False where the work would become too much.
+fn repair(parts: &mut Parts, random: &mut Random, times: usize, work: usize) -> bool {
+    let mut scratch = [0; fast::SCRATCH];
+    for _ in 0..times {
+        let mut v = [0; 8];
+        let number = fast::check(&parts.bytes(), &mut scratch, &mut v);
+        let v = v.map(|value| value as usize);
+        match number {
+            10 | 11 => repair_lookup(parts, random, number, v),
+            12 => parts.methods[v[5]].declared = parts.methods[v[5]].specialisers,
+            13 => repair_result(parts, random, v),
+            14..=17 => repair_body(parts, random, v[0]),
+            _ => return true,
+        }
+        if !within(parts, work) {
+            return false;
+        }
+    }
+    true
+}
+
+/// Adds a method for the tuple, or for all that the signature covers; or takes a rival or the signature away.
+fn repair_lookup(parts: &mut Parts, random: &mut Random, number: u8, v: [usize; 8]) {
+    let [signature, function, a, b, c, ..] = v;
+    let tuple = [a as u8, b as u8, c as u8];
+    if number == 11 && random.once_in(3) {
+        parts.methods.remove(v[5 + random.below(2)]);
+        return;
+    }
+    let of = parts.signatures[signature].clone();
+    let specialisers = if number == 10 && random.below(3) > 0 { of.arguments } else { tuple };
+    let body = body(parts, random, of.function, of.result);
+    let method = Method { function: function as u8, specialisers, declared: specialisers, result: of.result, body };
+    if !add_method(parts, method) {
+        parts.signatures.remove(signature);
+    }
+}
+
+fn repair_result(parts: &mut Parts, random: &mut Random, v: [usize; 8]) {
+    let signature = &mut parts.signatures[v[0]];
+    if random.once_in(8) {
+        signature.result = 0;
+        return;
+    }
+    let result = signature.result;
+    parts.methods[v[5]].result = result;
+    parts.methods[v[5]].body = vec![[NEW, fitting(parts, random, result)]];
+}
+
+/// Gives the method another body, a result that fits, or the class that it needs.
+fn repair_body(parts: &mut Parts, random: &mut Random, method: usize) {
+    let Method { function, result, .. } = parts.methods[method];
+    match random.below(8) {
+        0..=4 => parts.methods[method].body = body(parts, random, function, result),
+        5..=6 => parts.methods[method].body = vec![[NEW, fitting(parts, random, result)]],
+        _ => parts.classes[result as usize].concrete = true,
+    }
+}
+
+/// Changes one thing of a bundle, which it keeps lawful.
+fn spoil(parts: &mut Parts, random: &mut Random) {
+    let classes = parts.classes.len();
+    let class = random.below(classes) as u8;
+    match random.below(8) {
+        0 => parts.classes[class as usize].concrete ^= true,
+        1 if !parts.signatures.is_empty() => {
+            let at = random.below(parts.signatures.len());
+            parts.signatures[at].result = class;
+        }
+        2 if !parts.signatures.is_empty() => {
+            let at = random.below(parts.signatures.len());
+            let function = parts.signatures[at].function;
+            parts.signatures[at].arguments = places(parts, random, function);
+        }
+        _ if parts.methods.is_empty() => {}
+        3 => {
+            parts.methods.remove(random.below(parts.methods.len()));
+        }
+        4 => {
+            let at = random.below(parts.methods.len());
+            parts.methods[at].result = class;
+        }
+        5 => {
+            let at = random.below(parts.methods.len());
+            let function = parts.methods[at].function;
+            parts.methods[at].declared = places(parts, random, function);
+        }
+        6 => {
+            let at = random.below(parts.methods.len());
+            let (function, result) = (parts.methods[at].function, parts.methods[at].result);
+            let place = random.below(parts.methods[at].body.len());
+            parts.methods[at].body[place] = leaf(parts, random, function, result);
+        }
+        _ => {
+            let at = random.below(parts.methods.len());
+            let body = &mut parts.methods[at].body;
+            if body.len() > 1 {
+                body.remove(random.below(body.len()));
+            }
+        }
+    }
+}

@@ -1,0 +1,65 @@
+//! What was seen.
+
+use std::fmt;
+
+/// The numbers of document 01, and 0 for an answer.
+pub const NUMBERS: usize = 21;
+
+/// Counts of bundles, calls and numbers, and of differences.
+#[derive(Default)]
+pub struct Tally {
+    pub bundles: usize,
+    pub calls: usize,
+    pub differences: usize,
+    /// For each number how many bundles the check gave it for.
+    pub checks: [usize; NUMBERS],
+    /// For each entry point, how often it gave each number.
+    pub by_call: Vec<(&'static str, [usize; NUMBERS])>,
+    /// How many runs ended with a value, spent, and deep.
+    pub ends: [usize; 3],
+    /// The most steps that a run made.
+    pub most_steps: u32,
+}
+
+impl Tally {
+    pub fn count(&mut self, name: &'static str, number: u8) {
+        self.calls += 1;
+        let at = match self.by_call.iter().position(|(known, _)| *known == name) {
+            Some(at) => at,
+            None => {
+                self.by_call.push((name, [0; NUMBERS]));
+                self.by_call.len() - 1
+            }
+        };
+        self.by_call[at].1[number as usize % NUMBERS] += 1;
+    }
+
+    /// Counts how a run of number 0 ended.
+    pub fn count_run(&mut self, values: [u32; 8]) {
+        self.ends[values[0] as usize % 3] += 1;
+        self.most_steps = self.most_steps.max(values[7]);
+    }
+
+    /// The numbers 0 to 17 that no check gave.
+    pub fn never_seen(&self) -> Vec<usize> {
+        (0..=17).filter(|&number| self.checks[number] == 0).collect()
+    }
+}
+
+impl fmt::Display for Tally {
+    fn fmt(&self, f: &mut fmt::Formatter<'_>) -> fmt::Result {
+        writeln!(f, "{} bundles, {} calls, {} differences", self.bundles, self.calls, self.differences)?;
+        writeln!(f, "bundles by the number of their check (0 is accepted):")?;
+        for (number, count) in self.checks.iter().enumerate().take(18) {
+            writeln!(f, "  {number:2} {count:8}")?;
+        }
+        writeln!(f, "numbers by call:")?;
+        for (name, counts) in &self.by_call {
+            let seen: Vec<String> =
+                (0..NUMBERS).filter(|&n| counts[n] != 0).map(|n| format!("{n}:{}", counts[n])).collect();
+            writeln!(f, "  {name}: {}", seen.join(" "))?;
+        }
+        let [value, spent, deep] = self.ends;
+        writeln!(f, "runs: {value} value, {spent} spent, {deep} deep; at most {} steps", self.most_steps)
+    }
+}

@@ -1,0 +1,566 @@
+//! The answers, and for each case document 01's number and values.
+
+use std::error::Error;
+use std::fmt;
+use std::ops::Range;
+
+/// What crosses back from the library: document 01's number, 0 where the call answers, and eight values. Values that
+/// mean nothing are 0.
+#[derive(Clone, Copy, Debug, PartialEq, Eq)]
+pub struct Reply {
+    pub number: u8,
+    pub values: [u32; 8],
+}
+
+impl Reply {
+    fn new(number: u8, named: &[u32]) -> Reply {
+        let mut values = [0; 8];
+        values[..named.len()].copy_from_slice(named);
+        Reply { number, values }
+    }
+}
+
+/// An answer as a reply, and a reply as an answer.
+///
+/// ```
+/// use curiumtoad::{Answer, Lookup};
+///
+/// let answer = Lookup::Found(3);
+/// assert_eq!(answer.reply().number, 0);
+/// assert_eq!(Lookup::of(answer.reply()), answer);
+/// ```
+pub trait Answer: Sized {
+    /// The answer that a reply of this call stands for.
+    ///
+    /// # Panics
+    ///
+    /// On a number that the call never gives.
+    fn of(reply: Reply) -> Self;
+
+    /// Document 01's number and values for this answer.
+    fn reply(&self) -> Reply;
+}
+
+fn never_given(reply: Reply) -> ! {
+    panic!("this call never gives {} with {:?}", reply.number, reply.values)
+}
+
+/// A function and the classes that it is sent to; unused places hold 0.
+#[derive(Clone, Copy, Debug, PartialEq, Eq)]
+pub struct Sent {
+    pub function: u32,
+    pub arguments: [u32; 3],
+}
+
+impl Sent {
+    fn at(values: &[u32]) -> Sent {
+        Sent { function: values[0], arguments: [values[1], values[2], values[3]] }
+    }
+}
+
+/// How many records of each kind a bundle has.
+#[derive(Clone, Copy, Debug, PartialEq, Eq)]
+pub struct Counts {
+    pub classes: u32,
+    pub functions: u32,
+    pub signatures: u32,
+    pub methods: u32,
+}
+
+/// Why a call was refused: the bundle does not open, a buffer is too short, or a number names nothing.
+#[derive(Clone, Copy, Debug, PartialEq, Eq)]
+pub enum Refusal {
+    /// 1: fewer than 24 or more than 65,535 bytes.
+    Length,
+    /// 2: the directory is wrong, or a section has no whole records.
+    Directory,
+    /// 3: too many records of a kind, or no class.
+    Limits,
+    /// 4: this class record breaks its rule.
+    Class(u32),
+    /// 5: this function record breaks its rule.
+    Function(u32),
+    /// 6: this signature record breaks its rule.
+    Signature(u32),
+    /// 7: this method record breaks its rule.
+    Method(u32),
+    /// 8: an earlier method of the same function has the specialisers of this one.
+    Twin(u32),
+    /// 9: this method's body has an unknown operation, or an operand that names nothing.
+    Operand(u32),
+    /// 18: an absent function, method, signature or class, an unused argument that is not 0, an abstract class in a run
+    /// or a witness, or a witness tuple that the signature does not cover.
+    Absent,
+    /// 19: the scratch is shorter than 16,384 bytes.
+    Scratch,
+    /// 20: the row is shorter than 128 bytes.
+    Row,
+}
+
+impl Refusal {
+    fn of(reply: Reply) -> Refusal {
+        let record = reply.values[0];
+        match reply.number {
+            1 => Refusal::Length,
+            2 => Refusal::Directory,
+            3 => Refusal::Limits,
+            4 => Refusal::Class(record),
+            5 => Refusal::Function(record),
+            6 => Refusal::Signature(record),
+            7 => Refusal::Method(record),
+            8 => Refusal::Twin(record),
+            9 => Refusal::Operand(record),
+            18 => Refusal::Absent,
+            19 => Refusal::Scratch,
+            20 => Refusal::Row,
+            _ => never_given(reply),
+        }
+    }
+
+    fn reply(&self) -> Reply {
+        match *self {
+            Refusal::Length => Reply::new(1, &[]),
+            Refusal::Directory => Reply::new(2, &[]),
+            Refusal::Limits => Reply::new(3, &[]),
+            Refusal::Class(record) => Reply::new(4, &[record]),
+            Refusal::Function(record) => Reply::new(5, &[record]),
+            Refusal::Signature(record) => Reply::new(6, &[record]),
+            Refusal::Method(record) => Reply::new(7, &[record]),
+            Refusal::Twin(record) => Reply::new(8, &[record]),
+            Refusal::Operand(record) => Reply::new(9, &[record]),
+            Refusal::Absent => Reply::new(18, &[]),
+            Refusal::Scratch => Reply::new(19, &[]),
+            Refusal::Row => Reply::new(20, &[]),
+        }
+    }
+}
+
+impl fmt::Display for Refusal {
+    fn fmt(&self, f: &mut fmt::Formatter<'_>) -> fmt::Result {
+        match self {
+            Refusal::Length => write!(f, "the bundle is too short or too long"),
+            Refusal::Directory => write!(f, "the bundle's directory is wrong"),
+            Refusal::Limits => write!(f, "the bundle has too many records, or no class"),
+            Refusal::Class(record) => write!(f, "class record {record} breaks its rule"),
+            Refusal::Function(record) => write!(f, "function record {record} breaks its rule"),
+            Refusal::Signature(record) => write!(f, "signature record {record} breaks its rule"),
+            Refusal::Method(record) => write!(f, "method record {record} breaks its rule"),
+            Refusal::Twin(record) => write!(f, "method {record} has an earlier twin"),
+            Refusal::Operand(record) => write!(f, "the body of method {record} names what is not there"),
+            Refusal::Absent => write!(f, "a number names nothing that this call takes"),
+            Refusal::Scratch => write!(f, "the scratch is too short"),
+            Refusal::Row => write!(f, "the row is too short"),
+        }
+    }
+}
+
+impl Error for Refusal {}
+
+impl Answer for Result<Counts, Refusal> {
+    fn of(reply: Reply) -> Self {
+        match reply.number {
+            0 => {
+                let [classes, functions, signatures, methods, ..] = reply.values;
+                Ok(Counts { classes, functions, signatures, methods })
+            }
+            _ => Err(Refusal::of(reply)),
+        }
+    }
+
+    fn reply(&self) -> Reply {
+        match self {
+            Ok(counts) => Reply::new(0, &[counts.classes, counts.functions, counts.signatures, counts.methods]),
+            Err(refusal) => refusal.reply(),
+        }
+    }
+}
+
+impl Answer for Result<bool, Refusal> {
+    fn of(reply: Reply) -> Self {
+        match (reply.number, reply.values[0]) {
+            (0, 0) => Ok(false),
+            (0, 1) => Ok(true),
+            (0, _) => never_given(reply),
+            _ => Err(Refusal::of(reply)),
+        }
+    }
+
+    fn reply(&self) -> Reply {
+        match self {
+            Ok(under) => Reply::new(0, &[*under as u32]),
+            Err(refusal) => refusal.reply(),
+        }
+    }
+}
+
+impl Answer for Result<Range<usize>, Refusal> {
+    fn of(reply: Reply) -> Self {
+        match reply.number {
+            0 => {
+                let [offset, length, ..] = reply.values.map(|value| value as usize);
+                Ok(offset..offset + length)
+            }
+            _ => Err(Refusal::of(reply)),
+        }
+    }
+
+    fn reply(&self) -> Reply {
+        match self {
+            Ok(range) => Reply::new(0, &[range.start as u32, range.len() as u32]),
+            Err(refusal) => refusal.reply(),
+        }
+    }
+}
+
+/// The answer of a lookup.
+#[derive(Clone, Copy, Debug, PartialEq, Eq)]
+pub enum Lookup {
+    /// The send finds this method.
+    Found(u32),
+    /// 10: no method applies.
+    NoMethod(Sent),
+    /// 11: no applicable method is at least as specific as every other; the two lowest unbeaten ones, lower first.
+    Rivals(Sent, [u32; 2]),
+    /// The call was refused.
+    Refused(Refusal),
+}
+
+impl Answer for Lookup {
+    fn of(reply: Reply) -> Self {
+        let v = reply.values;
+        match reply.number {
+            0 => Lookup::Found(v[0]),
+            10 => Lookup::NoMethod(Sent::at(&v)),
+            11 => Lookup::Rivals(Sent::at(&v), [v[4], v[5]]),
+            _ => Lookup::Refused(Refusal::of(reply)),
+        }
+    }
+
+    fn reply(&self) -> Reply {
+        match self {
+            Lookup::Found(method) => Reply::new(0, &[*method]),
+            Lookup::NoMethod(sent) => sent_reply(10, sent, &[]),
+            Lookup::Rivals(sent, rivals) => sent_reply(11, sent, rivals),
+            Lookup::Refused(refusal) => refusal.reply(),
+        }
+    }
+}
+
+fn sent_reply(number: u8, sent: &Sent, methods: &[u32]) -> Reply {
+    let [a0, a1, a2] = sent.arguments;
+    Reply::new(number, &[&[sent.function, a0, a1, a2], methods].concat())
+}
+
+/// The answer of a send type call; the type itself is in the row.
+#[derive(Clone, Copy, Debug, PartialEq, Eq)]
+pub enum SendType {
+    /// The row holds the type.
+    Typed,
+    /// 16: no signature licenses the send.
+    NoLicence,
+    /// The call was refused.
+    Refused(Refusal),
+}
+
+impl Answer for SendType {
+    fn of(reply: Reply) -> Self {
+        match reply.number {
+            0 => SendType::Typed,
+            16 => SendType::NoLicence,
+            _ => SendType::Refused(Refusal::of(reply)),
+        }
+    }
+
+    fn reply(&self) -> Reply {
+        match self {
+            SendType::Typed => Reply::new(0, &[]),
+            SendType::NoLicence => Reply::new(16, &[]),
+            SendType::Refused(refusal) => refusal.reply(),
+        }
+    }
+}
+
+/// Why a tuple breaks the coverage of a signature.
+#[derive(Clone, Copy, Debug, PartialEq, Eq)]
+pub enum Fault {
+    /// 10: no method applies.
+    NoMethod,
+    /// 11: no applicable method leads; the two lowest unbeaten ones.
+    Rivals([u32; 2]),
+    /// 12: an argument class is not under the declared class of the method found.
+    Declared(u32),
+    /// 13: the result class of the method found is not under the signature's.
+    Result(u32),
+}
+
+/// A signature whose coverage is broken, with a tuple that breaks it.
+#[derive(Clone, Copy, Debug, PartialEq, Eq)]
+pub struct BrokenSignature {
+    pub signature: u32,
+    pub sent: Sent,
+    pub fault: Fault,
+}
+
+impl BrokenSignature {
+    /// The broken signature of a reply of number 10 to 13.
+    fn of(reply: Reply) -> Option<BrokenSignature> {
+        let v = reply.values;
+        let fault = match reply.number {
+            10 => Fault::NoMethod,
+            11 => Fault::Rivals([v[5], v[6]]),
+            12 => Fault::Declared(v[5]),
+            13 => Fault::Result(v[5]),
+            _ => return None,
+        };
+        Some(BrokenSignature { signature: v[0], sent: Sent::at(&v[1..]), fault })
+    }
+
+    fn reply(&self) -> Reply {
+        let (number, methods): (u8, &[u32]) = match &self.fault {
+            Fault::NoMethod => (10, &[]),
+            Fault::Rivals(rivals) => (11, rivals),
+            Fault::Declared(method) => (12, std::slice::from_ref(method)),
+            Fault::Result(method) => (13, std::slice::from_ref(method)),
+        };
+        let [a0, a1, a2] = self.sent.arguments;
+        Reply::new(number, &[&[self.signature, self.sent.function, a0, a1, a2], methods].concat())
+    }
+}
+
+/// Which body rule is broken.
+#[derive(Clone, Copy, Debug, PartialEq, Eq)]
+pub enum BodyFault {
+    /// 14: a send with too few values, or an end with none or with several.
+    Values,
+    /// 15: NEW of an abstract class.
+    Abstract,
+    /// 16: no signature licenses the send.
+    NoLicence,
+    /// 17: the type left at the end does not contain the method's result class.
+    Result,
+}
+
+/// A method whose body breaks a rule, and the instruction that does; the end counts as one more instruction.
+#[derive(Clone, Copy, Debug, PartialEq, Eq)]
+pub struct BrokenBody {
+    pub method: u32,
+    pub instruction: u32,
+    pub fault: BodyFault,
+}
+
+impl BrokenBody {
+    /// The broken body of a reply of number 14 to 17.
+    fn of(reply: Reply) -> Option<BrokenBody> {
+        let fault = match reply.number {
+            14 => BodyFault::Values,
+            15 => BodyFault::Abstract,
+            16 => BodyFault::NoLicence,
+            17 => BodyFault::Result,
+            _ => return None,
+        };
+        Some(BrokenBody { method: reply.values[0], instruction: reply.values[1], fault })
+    }
+
+    fn reply(&self) -> Reply {
+        let number = match self.fault {
+            BodyFault::Values => 14,
+            BodyFault::Abstract => 15,
+            BodyFault::NoLicence => 16,
+            BodyFault::Result => 17,
+        };
+        Reply::new(number, &[self.method, self.instruction])
+    }
+}
+
+/// What a check found broken in a bundle that opens.
+#[derive(Clone, Copy, Debug, PartialEq, Eq)]
+pub enum Finding {
+    /// The lowest broken signature.
+    Coverage(BrokenSignature),
+    /// The lowest broken method, where no signature is broken.
+    Body(BrokenBody),
+}
+
+impl Finding {
+    fn of(reply: Reply) -> Option<Finding> {
+        BrokenSignature::of(reply).map(Finding::Coverage).or_else(|| BrokenBody::of(reply).map(Finding::Body))
+    }
+
+    fn reply(&self) -> Reply {
+        match self {
+            Finding::Coverage(broken) => broken.reply(),
+            Finding::Body(broken) => broken.reply(),
+        }
+    }
+}
+
+/// The answer of a check.
+#[derive(Clone, Copy, Debug, PartialEq, Eq)]
+pub enum Verdict {
+    /// Every signature is covered and every body keeps the rules.
+    Accepted,
+    /// Something is broken.
+    Broken(Finding),
+    /// The call was refused.
+    Refused(Refusal),
+}
+
+impl Answer for Verdict {
+    fn of(reply: Reply) -> Self {
+        match (reply.number, Finding::of(reply)) {
+            (0, _) => Verdict::Accepted,
+            (_, Some(finding)) => Verdict::Broken(finding),
+            (_, None) => Verdict::Refused(Refusal::of(reply)),
+        }
+    }
+
+    fn reply(&self) -> Reply {
+        match self {
+            Verdict::Accepted => Reply::new(0, &[]),
+            Verdict::Broken(finding) => finding.reply(),
+            Verdict::Refused(refusal) => refusal.reply(),
+        }
+    }
+}
+
+/// The answer of a witness check.
+#[derive(Clone, Copy, Debug, PartialEq, Eq)]
+pub enum Witness {
+    /// The coverage rule holds for the tuple.
+    Holds,
+    /// The tuple breaks the signature's coverage.
+    Broken(BrokenSignature),
+    /// The call was refused.
+    Refused(Refusal),
+}
+
+impl Answer for Witness {
+    fn of(reply: Reply) -> Self {
+        match (reply.number, BrokenSignature::of(reply)) {
+            (0, _) => Witness::Holds,
+            (_, Some(broken)) => Witness::Broken(broken),
+            (_, None) => Witness::Refused(Refusal::of(reply)),
+        }
+    }
+
+    fn reply(&self) -> Reply {
+        match self {
+            Witness::Holds => Reply::new(0, &[]),
+            Witness::Broken(broken) => broken.reply(),
+            Witness::Refused(refusal) => refusal.reply(),
+        }
+    }
+}
+
+/// How a run ends.
+#[derive(Clone, Copy, Debug, PartialEq, Eq)]
+pub enum Ending {
+    /// The opening body ended with this class.
+    Value(u32),
+    /// The steps made equal the count, and an instruction is left.
+    Spent,
+    /// A send would need a 33rd frame.
+    Deep,
+    /// 10: no method applies to this send.
+    NoMethod(Sent),
+    /// 11: no applicable method leads for this send; the two lowest unbeaten ones.
+    Rivals(Sent, [u32; 2]),
+    /// 12: an argument class is not under the declared class of this method, which the send finds.
+    Declared(Sent, u32),
+    /// 14: a send with too few values, or an end with none or with several.
+    Values { method: u32, instruction: u32 },
+    /// 15: NEW of an abstract class.
+    Abstract { method: u32, instruction: u32 },
+}
+
+/// The answer of a run.
+#[derive(Clone, Copy, Debug, PartialEq, Eq)]
+pub enum Run {
+    /// The run ended after these steps.
+    Ended { ending: Ending, steps: u32 },
+    /// The call was refused.
+    Refused(Refusal),
+}
+
+impl Answer for Run {
+    fn of(reply: Reply) -> Self {
+        let v = reply.values;
+        let ending = match (reply.number, v[0]) {
+            (0, 0) => Ending::Value(v[1]),
+            (0, 1) => Ending::Spent,
+            (0, 2) => Ending::Deep,
+            (0, _) => never_given(reply),
+            (10, _) => Ending::NoMethod(Sent::at(&v)),
+            (11, _) => Ending::Rivals(Sent::at(&v), [v[4], v[5]]),
+            (12, _) => Ending::Declared(Sent::at(&v), v[4]),
+            (14, method) => Ending::Values { method, instruction: v[1] },
+            (15, method) => Ending::Abstract { method, instruction: v[1] },
+            _ => return Run::Refused(Refusal::of(reply)),
+        };
+        Run::Ended { ending, steps: v[7] }
+    }
+
+    fn reply(&self) -> Reply {
+        let (ending, steps) = match self {
+            Run::Ended { ending, steps } => (ending, steps),
+            Run::Refused(refusal) => return refusal.reply(),
+        };
+        let mut reply = match ending {
+            Ending::Value(class) => Reply::new(0, &[0, *class]),
+            Ending::Spent => Reply::new(0, &[1]),
+            Ending::Deep => Reply::new(0, &[2]),
+            Ending::NoMethod(sent) => sent_reply(10, sent, &[]),
+            Ending::Rivals(sent, rivals) => sent_reply(11, sent, rivals),
+            Ending::Declared(sent, method) => sent_reply(12, sent, &[*method]),
+            Ending::Values { method, instruction } => Reply::new(14, &[*method, *instruction]),
+            Ending::Abstract { method, instruction } => Reply::new(15, &[*method, *instruction]),
+        };
+        reply.values[7] = *steps;
+        reply
+    }
+}
+
+/// The answer of a run of an accepted bundle. It has no case for a send or a body that fails: none does.
+#[derive(Clone, Copy, Debug, PartialEq, Eq)]
+pub enum AcceptedRun {
+    /// The opening body ended with this class.
+    Value { class: u32, steps: u32 },
+    /// The steps made equal the count, and an instruction is left.
+    Spent { steps: u32 },
+    /// A send would need a 33rd frame.
+    Deep { steps: u32 },
+    /// The bundle is not accepted, and nothing was run.
+    NotAccepted(Finding),
+    /// The bundle is accepted, but no signature covers the send, and nothing was run.
+    NotCovered,
+    /// The call was refused.
+    Refused(Refusal),
+}
+
+impl Answer for AcceptedRun {
+    fn of(reply: Reply) -> Self {
+        let v = reply.values;
+        match (reply.number, v[0]) {
+            (0, 0) => AcceptedRun::Value { class: v[1], steps: v[7] },
+            (0, 1) => AcceptedRun::Spent { steps: v[7] },
+            (0, 2) => AcceptedRun::Deep { steps: v[7] },
+            (0, _) => never_given(reply),
+            (18, 1) => AcceptedRun::NotCovered,
+            _ => match Finding::of(reply) {
+                Some(finding) => AcceptedRun::NotAccepted(finding),
+                None => AcceptedRun::Refused(Refusal::of(reply)),
+            },
+        }
+    }
+
+    fn reply(&self) -> Reply {
+        match self {
+            AcceptedRun::Value { class, steps } => Reply::new(0, &[0, *class, 0, 0, 0, 0, 0, *steps]),
+            AcceptedRun::Spent { steps } => Reply::new(0, &[1, 0, 0, 0, 0, 0, 0, *steps]),
+            AcceptedRun::Deep { steps } => Reply::new(0, &[2, 0, 0, 0, 0, 0, 0, *steps]),
+            AcceptedRun::NotAccepted(finding) => finding.reply(),
+            AcceptedRun::NotCovered => Reply::new(18, &[1]),
+            AcceptedRun::Refused(refusal) => refusal.reply(),
+        }
+    }
+}

@@ -1,0 +1,180 @@
+//! A safe interface to the verified library of bundles, sends and bodies.
+//!
+//! A *bundle* is a small binary file of classes, functions, signatures, methods and method bodies. Every call takes the
+//! bundle's bytes and opens them anew; no state is kept between calls, and no call can fail but by its answer. The calls
+//! other than [`open`] and [`body`] take a scratch of [`SCRATCH`] bytes or more, into which they write which class is
+//! under which: byte 128·a + b is 1 when class a is under class b, else 0. Later bytes are left alone, and so is the
+//! whole scratch where the bundle does not open or the scratch is too short.
+//!
+//! Functions, classes, methods and signatures are numbers, counted from 0. The classes of a call are three, whatever the
+//! function's argument count; unused places hold 0.
+//!
+//! ```
+//! use curiumtoad::{check, lookup, Lookup, Verdict, SCRATCH};
+//!
+//! let bundle = std::fs::read("../../bundles/chart-4.bundle")?;
+//! let mut scratch = [0; SCRATCH];
+//! assert_eq!(check(&bundle, &mut scratch), Verdict::Accepted);
+//! assert_eq!(lookup(&bundle, &mut scratch, 0, [2, 4, 0]), Lookup::Found(3));
+//! # Ok::<(), std::io::Error>(())
+//! ```
+
+mod answers;
+pub mod raw;
+
+pub use answers::{
+    AcceptedRun, Answer, BodyFault, BrokenBody, BrokenSignature, Counts, Ending, Fault, Finding, Lookup, Refusal,
+    Reply, Run, SendType, Sent, Verdict, Witness,
+};
+
+use std::ops::Range;
+
+/// The least length of a scratch.
+pub const SCRATCH: usize = 16_384;
+/// The least length of a row.
+pub const ROW: usize = 128;
+
+/// Opens the bundle and counts its records.
+///
+/// ```
+/// use curiumtoad::{open, Counts, Refusal};
+///
+/// let bundle = std::fs::read("../../bundles/chart-3.bundle")?;
+/// assert_eq!(open(&bundle), Ok(Counts { classes: 8, functions: 1, signatures: 1, methods: 3 }));
+/// assert_eq!(open(&bundle[..23]), Err(Refusal::Length));
+/// assert_eq!(open(&[]), Err(Refusal::Length));
+/// # Ok::<(), std::io::Error>(())
+/// ```
+pub fn open(bundle: &[u8]) -> Result<Counts, Refusal> {
+    Answer::of(raw::reply(|values| raw::open(bundle, values)))
+}
+
+/// Whether class `a` is under class `b`: whether `a` is `b`, or a parent of `a` is under `b`.
+///
+/// ```
+/// use curiumtoad::{ancestry, Refusal, SCRATCH};
+///
+/// let bundle = std::fs::read("../../bundles/chart-3.bundle")?;
+/// let mut scratch = [0; SCRATCH];
+/// assert_eq!(ancestry(&bundle, &mut scratch, 4, 3), Ok(true));
+/// assert_eq!(ancestry(&bundle, &mut scratch, 3, 4), Ok(false));
+/// assert_eq!(ancestry(&bundle, &mut scratch, 3, 8), Err(Refusal::Absent));
+/// assert_eq!(scratch[128 * 4 + 3], 1);
+/// # Ok::<(), std::io::Error>(())
+/// ```
+pub fn ancestry(bundle: &[u8], scratch: &mut [u8], a: u32, b: u32) -> Result<bool, Refusal> {
+    Answer::of(raw::reply(|values| raw::ancestry(bundle, scratch, a, b, values)))
+}
+
+/// The method that a send finds: the applicable method that is at least as specific as every other applicable one.
+/// Abstract classes are looked up too.
+///
+/// ```
+/// use curiumtoad::{lookup, Lookup, Sent, SCRATCH};
+///
+/// let bundle = std::fs::read("../../bundles/chart-3.bundle")?;
+/// let mut scratch = [0; SCRATCH];
+/// assert_eq!(lookup(&bundle, &mut scratch, 0, [1, 4, 0]), Lookup::Found(0));
+/// let sent = Sent { function: 0, arguments: [2, 4, 0] };
+/// assert_eq!(lookup(&bundle, &mut scratch, 0, [2, 4, 0]), Lookup::Rivals(sent, [0, 1]));
+/// # Ok::<(), std::io::Error>(())
+/// ```
+pub fn lookup(bundle: &[u8], scratch: &mut [u8], function: u32, arguments: [u32; 3]) -> Lookup {
+    Answer::of(raw::reply(|values| raw::lookup(bundle, scratch, function, arguments, values)))
+}
+
+/// The static type of a send, for a class at each argument place: byte b of the row's first [`ROW`] bytes becomes 1 when
+/// class b is in the type, else 0. The row is left alone by every answer but [`SendType::Typed`].
+///
+/// ```
+/// use curiumtoad::{send_type, SendType, ROW, SCRATCH};
+///
+/// let bundle = std::fs::read("../../bundles/chart-5.bundle")?;
+/// let mut scratch = [0; SCRATCH];
+/// let mut row = [0; ROW];
+/// assert_eq!(send_type(&bundle, &mut scratch, &mut row, 0, [2, 4, 0]), SendType::Typed);
+/// let classes: Vec<usize> = (0..ROW).filter(|&class| row[class] == 1).collect();
+/// assert_eq!(classes, [0, 5, 7]);
+/// assert_eq!(send_type(&bundle, &mut scratch, &mut row, 0, [0, 0, 0]), SendType::NoLicence);
+/// # Ok::<(), std::io::Error>(())
+/// ```
+pub fn send_type(bundle: &[u8], scratch: &mut [u8], row: &mut [u8], function: u32, arguments: [u32; 3]) -> SendType {
+    Answer::of(raw::reply(|values| raw::send_type(bundle, scratch, row, function, arguments, values)))
+}
+
+/// Checks the bundle: first the coverage of each signature, then each body. A refused bundle is named by its lowest
+/// broken signature, with a broken tuple of it, or by its lowest broken method.
+///
+/// ```
+/// use curiumtoad::{check, Fault, Finding, Verdict, SCRATCH};
+///
+/// let bundle = std::fs::read("../../bundles/chart-3.bundle")?;
+/// let Verdict::Broken(Finding::Coverage(broken)) = check(&bundle, &mut [0; SCRATCH]) else { panic!() };
+/// assert_eq!(broken.signature, 0);
+/// assert_eq!(broken.sent.arguments, [2, 4, 0]);
+/// assert_eq!(broken.fault, Fault::Rivals([0, 1]));
+/// # Ok::<(), std::io::Error>(())
+/// ```
+pub fn check(bundle: &[u8], scratch: &mut [u8]) -> Verdict {
+    Answer::of(raw::reply(|values| raw::check(bundle, scratch, values)))
+}
+
+/// The coverage rule for one signature and one tuple of concrete classes that it covers.
+///
+/// ```
+/// use curiumtoad::{witness, Witness, SCRATCH};
+///
+/// let bundle = std::fs::read("../../bundles/chart-3.bundle")?;
+/// assert_eq!(witness(&bundle, &mut [0; SCRATCH], 0, [1, 3, 0]), Witness::Holds);
+/// # Ok::<(), std::io::Error>(())
+/// ```
+pub fn witness(bundle: &[u8], scratch: &mut [u8], signature: u32, arguments: [u32; 3]) -> Witness {
+    Answer::of(raw::reply(|values| raw::witness(bundle, scratch, signature, arguments, values)))
+}
+
+/// The part of the bundle that is the method's code: pairs of operation and operand.
+///
+/// ```
+/// use curiumtoad::{body, Refusal};
+///
+/// let bundle = std::fs::read("../../bundles/chart-3.bundle")?;
+/// assert_eq!(body(&bundle, 1), Ok(&[1, 7][..]));
+/// assert_eq!(body(&bundle, 3), Err(Refusal::Absent));
+/// # Ok::<(), std::io::Error>(())
+/// ```
+pub fn body(bundle: &[u8], method: u32) -> Result<&[u8], Refusal> {
+    let range: Result<Range<usize>, Refusal> = Answer::of(raw::reply(|values| raw::body(bundle, method, values)));
+    range.map(|range| &bundle[range])
+}
+
+/// Runs a send with concrete argument classes, for at most `count` steps. The bundle need not be accepted.
+///
+/// ```
+/// use curiumtoad::{run, Ending, Run, SCRATCH};
+///
+/// let bundle = std::fs::read("../../bundles/loop.bundle")?;
+/// let mut scratch = [0; SCRATCH];
+/// assert_eq!(run(&bundle, &mut scratch, 0, [0; 3], 31), Run::Ended { ending: Ending::Spent, steps: 31 });
+/// assert_eq!(run(&bundle, &mut scratch, 0, [0; 3], 32), Run::Ended { ending: Ending::Deep, steps: 31 });
+/// # Ok::<(), std::io::Error>(())
+/// ```
+pub fn run(bundle: &[u8], scratch: &mut [u8], function: u32, arguments: [u32; 3], count: u32) -> Run {
+    Answer::of(raw::reply(|values| raw::run(bundle, scratch, function, arguments, count, values)))
+}
+
+/// Checks the bundle and runs a send that a signature covers. No send of such a run fails, so the run ends with a value,
+/// with its steps spent, or too deep.
+///
+/// ```
+/// use curiumtoad::{run_accepted, AcceptedRun, SCRATCH};
+///
+/// let bundle = std::fs::read("../../bundles/chart-4.bundle")?;
+/// let mut scratch = [0; SCRATCH];
+/// let answer = run_accepted(&bundle, &mut scratch, 0, [2, 4, 0], 1);
+/// assert_eq!(answer, AcceptedRun::Value { class: 7, steps: 1 });
+/// assert_eq!(run_accepted(&bundle, &mut scratch, 0, [6, 7, 0], 1), AcceptedRun::NotCovered);
+/// # Ok::<(), std::io::Error>(())
+/// ```
+pub fn run_accepted(bundle: &[u8], scratch: &mut [u8], function: u32, arguments: [u32; 3], count: u32) -> AcceptedRun {
+    Answer::of(raw::reply(|values| raw::run_accepted(bundle, scratch, function, arguments, count, values)))
+}

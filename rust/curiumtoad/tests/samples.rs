@@ -1,0 +1,103 @@
+//! The sample bundles by the wrapper's types, and buffers of every length.
+
+use curiumtoad::{
+    ancestry, body, check, lookup, open, run, run_accepted, send_type, witness, AcceptedRun, BodyFault, BrokenBody,
+    BrokenSignature, Ending, Fault, Finding, Lookup, Refusal, Run, SendType, Sent, Verdict, Witness, ROW, SCRATCH,
+};
+
+fn sample(name: &str) -> Vec<u8> {
+    let path = format!("{}/../../bundles/{name}.bundle", env!("CARGO_MANIFEST_DIR"));
+    std::fs::read(path).expect("the sample is there")
+}
+
+fn verdict(name: &str) -> Verdict {
+    check(&sample(name), &mut [0; SCRATCH])
+}
+
+fn coverage(verdict: Verdict) -> BrokenSignature {
+    match verdict {
+        Verdict::Broken(Finding::Coverage(broken)) => broken,
+        other => panic!("{other:?}"),
+    }
+}
+
+fn bodies(verdict: Verdict) -> BrokenBody {
+    match verdict {
+        Verdict::Broken(Finding::Body(broken)) => broken,
+        other => panic!("{other:?}"),
+    }
+}
+
+#[test]
+fn accepted_samples() {
+    for name in ["chart-4", "chart-5", "loop", "one-class", "abstract-argument"] {
+        assert_eq!(verdict(name), Verdict::Accepted, "{name}");
+    }
+}
+
+#[test]
+fn refused_samples() {
+    assert_eq!(coverage(verdict("chart-3")).fault, Fault::Rivals([0, 1]));
+    assert!(matches!(coverage(verdict("narrow-declared")).fault, Fault::Declared(_)));
+    assert!(matches!(coverage(verdict("wide-result")).fault, Fault::Result(_)));
+    assert_eq!(bodies(verdict("two-values")).fault, BodyFault::Values);
+    assert_eq!(bodies(verdict("abstract-new")).fault, BodyFault::Abstract);
+    assert_eq!(bodies(verdict("no-licence")).fault, BodyFault::NoLicence);
+    assert_eq!(bodies(verdict("loose-result")).fault, BodyFault::Result);
+}
+
+#[test]
+fn a_broken_tuple_is_its_own_witness() {
+    let bundle = sample("chart-3");
+    let mut scratch = [0; SCRATCH];
+    let broken = coverage(check(&bundle, &mut scratch));
+    let arguments = broken.sent.arguments;
+    assert_eq!(witness(&bundle, &mut scratch, broken.signature, arguments), Witness::Broken(broken));
+    let sent = Sent { function: 0, arguments };
+    assert_eq!(lookup(&bundle, &mut scratch, 0, arguments), Lookup::Rivals(sent, [0, 1]));
+    let ending = Ending::Rivals(sent, [0, 1]);
+    assert_eq!(run(&bundle, &mut scratch, 0, arguments, 0), Run::Ended { ending, steps: 0 });
+    let finding = Finding::Coverage(broken);
+    assert_eq!(run_accepted(&bundle, &mut scratch, 0, arguments, 0), AcceptedRun::NotAccepted(finding));
+}
+
+#[test]
+fn empty_buffers_are_refused() {
+    let bundle = sample("chart-3");
+    assert_eq!(open(&[]), Err(Refusal::Length));
+    assert_eq!(body(&[], 0), Err(Refusal::Length));
+    assert_eq!(check(&[], &mut []), Verdict::Refused(Refusal::Length));
+    assert_eq!(check(&bundle, &mut []), Verdict::Refused(Refusal::Scratch));
+    assert_eq!(ancestry(&bundle, &mut [], 0, 0), Err(Refusal::Scratch));
+    assert_eq!(send_type(&bundle, &mut [], &mut [], 0, [1, 3, 0]), SendType::Refused(Refusal::Scratch));
+    assert_eq!(send_type(&bundle, &mut [0; SCRATCH], &mut [], 0, [1, 3, 0]), SendType::Refused(Refusal::Row));
+}
+
+#[test]
+fn short_buffers_are_left_alone_and_long_ones_past_their_part() {
+    let bundle = sample("chart-5");
+    let mut short = [9; SCRATCH - 1];
+    assert_eq!(check(&bundle, &mut short), Verdict::Refused(Refusal::Scratch));
+    assert!(short.iter().all(|&byte| byte == 9));
+    let mut scratch = [9; SCRATCH + 5];
+    let mut row = [9; ROW + 5];
+    assert_eq!(send_type(&bundle, &mut scratch, &mut row, 0, [2, 4, 0]), SendType::Typed);
+    assert!(scratch[..SCRATCH].iter().chain(&row[..ROW]).all(|&byte| byte < 2));
+    assert_eq!(scratch[SCRATCH..], [9; 5]);
+    assert_eq!(row[ROW..], [9; 5]);
+}
+
+#[test]
+fn absent_numbers_are_refused_whatever_their_width() {
+    let bundle = sample("chart-4");
+    let mut scratch = [0; SCRATCH];
+    for number in [8, 128, 256, 65_536, u32::MAX] {
+        assert_eq!(body(&bundle, number), Err(Refusal::Absent));
+        assert_eq!(ancestry(&bundle, &mut scratch, number, 0), Err(Refusal::Absent));
+        assert_eq!(lookup(&bundle, &mut scratch, 0, [1, number, 0]), Lookup::Refused(Refusal::Absent));
+        assert_eq!(lookup(&bundle, &mut scratch, number, [1, 3, 0]), Lookup::Refused(Refusal::Absent));
+        assert_eq!(lookup(&bundle, &mut scratch, 0, [1, 3, number]), Lookup::Refused(Refusal::Absent));
+        assert_eq!(witness(&bundle, &mut scratch, number, [1, 3, 0]), Witness::Refused(Refusal::Absent));
+        assert_eq!(run(&bundle, &mut scratch, number, [1, 3, 0], 1), Run::Refused(Refusal::Absent));
+    }
+}

@@ -1,0 +1,71 @@
+//! Ancestry and lookup.
+
+use crate::bundle::{Bundle, Method};
+use crate::Triple;
+
+/// Which class is under which.
+pub struct Matrix {
+    rows: Vec<[bool; 128]>,
+}
+
+impl Matrix {
+    /// A class is under itself and under what its parents are under. Parents have lower numbers, so their rows are done.
+    pub fn of(bundle: &Bundle) -> Matrix {
+        let mut rows: Vec<[bool; 128]> = Vec::new();
+        for (number, class) in bundle.classes.iter().enumerate() {
+            let mut row = [false; 128];
+            row[number] = true;
+            for &parent in &class.parents {
+                for (above, &parents_above) in row.iter_mut().zip(&rows[parent]) {
+                    *above |= parents_above;
+                }
+            }
+            rows.push(row);
+        }
+        Matrix { rows }
+    }
+
+    /// Whether class `a` is under class `b`; of an absent class, no.
+    pub fn under(&self, a: usize, b: usize) -> bool {
+        a < self.rows.len() && self.rows[a][b]
+    }
+
+    /// Whether at each of the first `places` places the class is under the other.
+    pub fn all_under(&self, places: usize, lower: Triple, upper: Triple) -> bool {
+        (0..places).all(|place| self.under(lower[place], upper[place]))
+    }
+
+    /// The classes that `a` is under.
+    pub fn row(&self, a: usize) -> [bool; 128] {
+        self.rows[a]
+    }
+}
+
+pub enum Found {
+    One(usize),
+    None,
+    /// The two lowest-numbered applicable methods that no other applicable method is at least as specific as.
+    Rivals(usize, usize),
+}
+
+/// The applicable method that is at least as specific as every other applicable method.
+pub fn lookup(bundle: &Bundle, matrix: &Matrix, function: usize, tuple: Triple) -> Found {
+    let places = bundle.functions[function];
+    let applies = |m: &Method| m.function == function && matrix.all_under(places, tuple, m.specialisers);
+    let at_least =
+        |m: usize, n: usize| matrix.all_under(places, bundle.methods[m].specialisers, bundle.methods[n].specialisers);
+    let applicable: Vec<usize> = (0..bundle.methods.len()).filter(|&m| applies(&bundle.methods[m])).collect();
+    if applicable.is_empty() {
+        return Found::None;
+    }
+    let leads = |&m: &usize| applicable.iter().all(|&other| other == m || at_least(m, other));
+    if let Some(method) = applicable.iter().copied().find(leads) {
+        return Found::One(method);
+    }
+    let unbeaten = |&m: &usize| applicable.iter().all(|&other| other == m || !at_least(other, m));
+    let mut rivals = applicable.iter().copied().filter(unbeaten);
+    match (rivals.next(), rivals.next()) {
+        (Some(first), Some(second)) => Found::Rivals(first, second),
+        _ => unreachable!("without twins, fewer than two unbeaten methods would mean that one leads"),
+    }
+}

@@ -1,0 +1,262 @@
+//! Bundles, sends and bodies by document 01, written for reading and for nothing else.
+//!
+//! This is an implementation of its own: it shares no code with the verified library, and serves to compare with it.
+//! Each call takes numbers, lends buffers, and gives a [`Reply`]: document 01's number, 0 where the call answers, and
+//! eight values, of which those that mean nothing are 0.
+
+mod bundle;
+mod coverage;
+mod dispatch;
+mod machine;
+mod typing;
+
+use bundle::{Broken, Bundle};
+use coverage::Fault;
+use dispatch::{Found, Matrix};
+use machine::Ending;
+
+/// The classes of a call, a signature or a method, place by place. Unused places hold 0.
+pub type Triple = [usize; 3];
+
+/// The least length of the scratch.
+pub const SCRATCH: usize = 128 * 128;
+/// The least length of the row.
+pub const ROW: usize = 128;
+
+/// What a call gives back.
+#[derive(Clone, Copy, Debug, PartialEq, Eq)]
+pub struct Reply {
+    /// Document 01's number, or 0 where the call answers.
+    pub number: u8,
+    /// What the number or the answer names, in the order of document 01's table.
+    pub values: [u32; 8],
+}
+
+impl Reply {
+    fn new(number: u8, named: &[usize]) -> Reply {
+        let mut values = [0; 8];
+        for (value, &name) in values.iter_mut().zip(named) {
+            *value = name as u32;
+        }
+        Reply { number, values }
+    }
+
+    fn with_steps(mut self, steps: u32) -> Reply {
+        self.values[7] = steps;
+        self
+    }
+}
+
+impl From<Broken> for Reply {
+    fn from(broken: Broken) -> Reply {
+        match broken.record {
+            Some(record) => Reply::new(broken.number, &[record]),
+            None => Reply::new(broken.number, &[]),
+        }
+    }
+}
+
+const ABSENT: u8 = 18;
+const SHORT_SCRATCH: u8 = 19;
+const SHORT_ROW: u8 = 20;
+
+/// Opens the bundle: the counts of classes, functions, signatures and methods.
+pub fn open(bundle: &[u8]) -> Reply {
+    match Bundle::open(bundle) {
+        Err(broken) => broken.into(),
+        Ok(b) => Reply::new(0, &[b.classes.len(), b.functions.len(), b.signatures.len(), b.methods.len()]),
+    }
+}
+
+/// Whether class `a` is under class `b`.
+pub fn ancestry(bundle: &[u8], scratch: &mut [u8], a: u32, b: u32) -> Reply {
+    let (bundle, matrix) = match prepare(bundle, scratch) {
+        Err(refusal) => return refusal,
+        Ok(prepared) => prepared,
+    };
+    let (a, b) = (a as usize, b as usize);
+    if a >= bundle.classes.len() || b >= bundle.classes.len() {
+        return Reply::new(ABSENT, &[]);
+    }
+    Reply::new(0, &[matrix.under(a, b) as usize])
+}
+
+/// The method that a send finds.
+pub fn lookup(bundle: &[u8], scratch: &mut [u8], function: u32, arguments: [u32; 3]) -> Reply {
+    let (bundle, matrix) = match prepare(bundle, scratch) {
+        Err(refusal) => return refusal,
+        Ok(prepared) => prepared,
+    };
+    let (f, t) = numbers(function, arguments);
+    if !send_present(&bundle, f, t) {
+        return Reply::new(ABSENT, &[]);
+    }
+    match dispatch::lookup(&bundle, &matrix, f, t) {
+        Found::One(method) => Reply::new(0, &[method]),
+        Found::None => Reply::new(10, &[f, t[0], t[1], t[2]]),
+        Found::Rivals(m, n) => Reply::new(11, &[f, t[0], t[1], t[2], m, n]),
+    }
+}
+
+/// The static type of a send, written to the row.
+pub fn send_type(bundle: &[u8], scratch: &mut [u8], row: &mut [u8], function: u32, arguments: [u32; 3]) -> Reply {
+    let (bundle, matrix) = match prepare(bundle, scratch) {
+        Err(refusal) => return refusal,
+        Ok(prepared) => prepared,
+    };
+    if row.len() < ROW {
+        return Reply::new(SHORT_ROW, &[]);
+    }
+    let (f, t) = numbers(function, arguments);
+    if !send_present(&bundle, f, t) {
+        return Reply::new(ABSENT, &[]);
+    }
+    let types: Vec<_> = t[..bundle.functions[f]].iter().map(|&class| typing::of_class(&matrix, class)).collect();
+    match typing::of_send(&bundle, &matrix, f, &types) {
+        None => Reply::new(16, &[]),
+        Some(send) => {
+            for (byte, &inside) in row.iter_mut().zip(&send) {
+                *byte = inside as u8;
+            }
+            Reply::new(0, &[])
+        }
+    }
+}
+
+/// The check: accepted, or what is broken.
+pub fn check(bundle: &[u8], scratch: &mut [u8]) -> Reply {
+    match prepare(bundle, scratch) {
+        Err(refusal) => refusal,
+        Ok((bundle, matrix)) => verdict(&bundle, &matrix),
+    }
+}
+
+/// The coverage rule for one signature and one tuple.
+pub fn witness(bundle: &[u8], scratch: &mut [u8], signature: u32, arguments: [u32; 3]) -> Reply {
+    let (bundle, matrix) = match prepare(bundle, scratch) {
+        Err(refusal) => return refusal,
+        Ok(prepared) => prepared,
+    };
+    let (number, tuple) = numbers(signature, arguments);
+    let Some(signature) = bundle.signatures.get(number) else {
+        return Reply::new(ABSENT, &[]);
+    };
+    let lawful = send_present(&bundle, signature.function, tuple)
+        && all_concrete(&bundle, signature.function, tuple)
+        && coverage::covers(&bundle, &matrix, signature, tuple);
+    if !lawful {
+        return Reply::new(ABSENT, &[]);
+    }
+    match coverage::fault(&bundle, &matrix, signature, tuple) {
+        None => Reply::new(0, &[]),
+        Some(fault) => broken_signature(number, signature.function, tuple, fault),
+    }
+}
+
+/// Where the method's code lies in the bundle: its offset and its length.
+pub fn body(bundle: &[u8], method: u32) -> Reply {
+    let bundle = match Bundle::open(bundle) {
+        Err(broken) => return broken.into(),
+        Ok(bundle) => bundle,
+    };
+    match bundle.methods.get(method as usize) {
+        None => Reply::new(ABSENT, &[]),
+        Some(method) => Reply::new(0, &[method.code_start, 2 * method.body.len()]),
+    }
+}
+
+/// A run of one send.
+pub fn run(bundle: &[u8], scratch: &mut [u8], function: u32, arguments: [u32; 3], count: u32) -> Reply {
+    let (bundle, matrix) = match prepare(bundle, scratch) {
+        Err(refusal) => return refusal,
+        Ok(prepared) => prepared,
+    };
+    let (f, t) = numbers(function, arguments);
+    if !send_present(&bundle, f, t) || !all_concrete(&bundle, f, t) {
+        return Reply::new(ABSENT, &[]);
+    }
+    ended(machine::run(&bundle, &matrix, f, t, count))
+}
+
+/// A run of one send on an accepted bundle. A refusal of the run comes first, then the check, then an opening send that
+/// no signature covers, which is 18 with first value 1.
+pub fn run_accepted(bundle: &[u8], scratch: &mut [u8], function: u32, arguments: [u32; 3], count: u32) -> Reply {
+    let (bundle, matrix) = match prepare(bundle, scratch) {
+        Err(refusal) => return refusal,
+        Ok(prepared) => prepared,
+    };
+    let (f, t) = numbers(function, arguments);
+    if !send_present(&bundle, f, t) || !all_concrete(&bundle, f, t) {
+        return Reply::new(ABSENT, &[]);
+    }
+    let verdict = verdict(&bundle, &matrix);
+    if verdict.number != 0 {
+        return verdict;
+    }
+    if !bundle.signatures.iter().any(|s| s.function == f && coverage::covers(&bundle, &matrix, s, t)) {
+        return Reply::new(ABSENT, &[1]);
+    }
+    ended(machine::run(&bundle, &matrix, f, t, count))
+}
+
+/// Opens the bundle and fills the scratch, or says why not.
+fn prepare(bundle: &[u8], scratch: &mut [u8]) -> Result<(Bundle, Matrix), Reply> {
+    let bundle = Bundle::open(bundle)?;
+    if scratch.len() < SCRATCH {
+        return Err(Reply::new(SHORT_SCRATCH, &[]));
+    }
+    let matrix = Matrix::of(&bundle);
+    for a in 0..128 {
+        for b in 0..128 {
+            scratch[128 * a + b] = matrix.under(a, b) as u8;
+        }
+    }
+    Ok((bundle, matrix))
+}
+
+fn numbers(first: u32, arguments: [u32; 3]) -> (usize, Triple) {
+    (first as usize, arguments.map(|a| a as usize))
+}
+
+/// Whether the function and the class at each used place are there, and the unused places are 0.
+fn send_present(bundle: &Bundle, function: usize, tuple: Triple) -> bool {
+    function < bundle.functions.len() && bundle.lawful_places(function, tuple)
+}
+
+fn all_concrete(bundle: &Bundle, function: usize, tuple: Triple) -> bool {
+    tuple[..bundle.functions[function]].iter().all(|&class| bundle.classes[class].concrete)
+}
+
+/// Coverage before bodies.
+fn verdict(bundle: &Bundle, matrix: &Matrix) -> Reply {
+    if let Some((signature, tuple, fault)) = coverage::first_broken(bundle, matrix) {
+        return broken_signature(signature, bundle.signatures[signature].function, tuple, fault);
+    }
+    match typing::first_broken_body(bundle, matrix) {
+        Some((method, broken)) => Reply::new(broken.number, &[method, broken.instruction]),
+        None => Reply::new(0, &[]),
+    }
+}
+
+fn broken_signature(s: usize, f: usize, t: Triple, fault: Fault) -> Reply {
+    match fault {
+        Fault::NoMethod => Reply::new(10, &[s, f, t[0], t[1], t[2]]),
+        Fault::Rivals(m, n) => Reply::new(11, &[s, f, t[0], t[1], t[2], m, n]),
+        Fault::Declared(m) => Reply::new(12, &[s, f, t[0], t[1], t[2], m]),
+        Fault::Result(m) => Reply::new(13, &[s, f, t[0], t[1], t[2], m]),
+    }
+}
+
+fn ended((ending, steps): (Ending, u32)) -> Reply {
+    let reply = match ending {
+        Ending::Value(class) => Reply::new(0, &[0, class]),
+        Ending::Spent => Reply::new(0, &[1]),
+        Ending::Deep => Reply::new(0, &[2]),
+        Ending::NoMethod(f, t) => Reply::new(10, &[f, t[0], t[1], t[2]]),
+        Ending::Rivals(f, t, m, n) => Reply::new(11, &[f, t[0], t[1], t[2], m, n]),
+        Ending::Declared(f, t, m) => Reply::new(12, &[f, t[0], t[1], t[2], m]),
+        Ending::Values(method, instruction) => Reply::new(14, &[method, instruction]),
+        Ending::Abstract(method, instruction) => Reply::new(15, &[method, instruction]),
+    };
+    reply.with_steps(steps)
+}
