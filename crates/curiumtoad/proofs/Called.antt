@@ -28,7 +28,6 @@ use Rattle.curiumtoad.specs.declared.prepare.Prepared.the-variants as pr
 use Rattle.curiumtoad.specs.Prepared.{Prepares, refusalSaid}
 use Rattle.curiumtoad.specs.Said.{blank}
 use Rattle.curiumtoad.specs.Refusal.{numberOf, valuesOf, recordOf}
-use Rattle.curiumtoad.specs.Reader.{nth, readingAt, instructionCall}
 
 module _ {A : Type 0} (b : List ℕ) (call : Model → Answer A) where
   -- a layout refusal is the call's answer
@@ -69,13 +68,15 @@ first-value (finding.Code k) = refl
 
 -- A call that takes a method and no scratch: 18 where the method is absent, else what it says of the model.
 module _ {A : Type 0} (b : List ℕ) (m : ℕ) (call : Model → Answer A) where
-  method-absent : {t : Bundle} → Opens b (answer.Opened t) → t .methods ≤ m → whenOpen b (λ M. require (ltb m (M .methods)) 18 (call M)) ≡ refuses 18 []
+  pub method-absent : {t : Bundle} → Opens b (answer.Opened t) → t .methods ≤ m
+      → whenOpen b (λ M. require (ltb m (M .methods)) 18 (call M)) ≡ refuses 18 []
   unfolding require
   method-absent o h =
       when-opened b (λ M. require (ltb m (M .methods)) 18 (call M)) o
       ∙ rw (le-ltb m (modelOf b .methods) (rw (sym (counts-of (opened-of o) .methods)) h))
 
-  method-present : {t : Bundle} → Opens b (answer.Opened t) → m < t .methods → whenOpen b (λ M. require (ltb m (M .methods)) 18 (call M)) ≡ call (modelOf b)
+  pub method-present : {t : Bundle} → Opens b (answer.Opened t) → m < t .methods
+      → whenOpen b (λ M. require (ltb m (M .methods)) 18 (call M)) ≡ call (modelOf b)
   unfolding require
   method-present o h =
       when-opened b (λ M. require (ltb m (M .methods)) 18 (call M)) o
@@ -94,20 +95,6 @@ module _ (b : List ℕ) (m : ℕ) where
   pub view-given : {t : Bundle} → Opens b (answer.Opened t) → m < t .methods → bodyViewCall b m ≡ gives (codeOf b m)
   unfolding bodyViewCall
   view-given o h = method-present b m (λ M. gives (codeOf b m)) o h
-
--- The three answers of the call for one instruction.
-module _ (b : List ℕ) (m n : ℕ) where
-  pub instruction-refused : (f : LayoutFinding) → Opens b (answer.Refused f) → instructionCall b m n ≡ refuses (numberOf (saidOf f)) (valuesOf (saidOf f))
-  unfolding instructionCall
-  instruction-refused f o = not-opened b (λ M. require (ltb m (M .methods)) 18 (gives (nth (M .body m) n))) f o
-
-  pub instruction-absent : {t : Bundle} → Opens b (answer.Opened t) → t .methods ≤ m → instructionCall b m n ≡ refuses 18 []
-  unfolding instructionCall
-  instruction-absent o h = method-absent b m (λ M. gives (nth (M .body m) n)) o h
-
-  pub instruction-given : {t : Bundle} → Opens b (answer.Opened t) → m < t .methods → instructionCall b m n ≡ gives (readingAt (codeOf b m) n)
-  unfolding instructionCall readingAt modelOf
-  instruction-given o h = method-present b m (λ M. gives (nth (M .body m) n)) o h
 
 -- The scratch: as it was where the bundle does not open or the scratch is short, else the matrix.
 pub scratch-refused : (b scratch : List ℕ) (f : LayoutFinding) → saidOf f ≡ opening b → scratchAfter b scratch ≡ scratch

@@ -3,51 +3,91 @@
 use Prim.Native.Nat.{ℕ, zero, suc, _+_, _*_, _/_, _≤_, _<_}
 use native.Mathlib.Omega.{arith}
 use mathlib.Core.Path.{_≡_, refl, sym, ap, _∙_}
-use mathlib.Core.Bool.{Bool, true, false}
+use mathlib.Core.Bool.{Bool, true, false, false≢true}
 use mathlib.Core.List.{List, [], _∷_, _++_, map}
 use mathlib.Core.Option.{Option, none, some}
-use lib.Dec.{ltb}
+use lib.Dec.{ltb, leb}
 use lib.ListN.{length, getD, replicate}
+use borrow.Author.Tests.{ltb-true, le-leb, lt-leb}
 use Rattle.rules.specs.Bytes.{byte}
-use Rattle.rules.specs.Layout.{Answer, gives, refuses, opening, require, codeOf}
-use Rattle.rules.specs.Model.{Instr, arg, decode, instructions, modelOf}
+use Rattle.rules.specs.Layout.{Answer, gives, refuses, opening, require, methodCount, instructionRule, everyPair, codeOf, codeRule}
+use Rattle.rules.specs.Model.{Instr, decode, instructions, modelOf}
 use Rattle.rules.specs.Calls.{onOpening, whenOpen, bodyViewCall}
-use Rattle.rules.proofs.Places.{instructions-length, instructions-read}
-use Rattle.curiumtoad.specs.Reader.{nth, readingAt, past, placeAfter, readings, ReadsBody}
+use Rattle.rules.proofs.Lists.{and-left, and-right}
+use Rattle.rules.proofs.Opening.{Rules, opened-rules}
+use Rattle.layout.specs.declared.bundle.Bundle.{Bundle}
+use Rattle.layout.specs.declared.finding.LayoutFinding.{LayoutFinding}
+use Rattle.layout.specs.declared.finding.Opening.the-variants as answer
+use Rattle.layout.specs.Opening.{saidOf, Opens}
+use Rattle.layout.proofs.Opened.{rules-of, counts-of, opened-of}
+use Rattle.curiumtoad.specs.Refusal.{numberOf, valuesOf}
+use Rattle.curiumtoad.specs.Reader.{nth, known, instructionOf, readingAt, past, placeAfter, instructionCall, readings, ReadsBody}
+use Rattle.curiumtoad.proofs.Called.{not-opened, method-absent, method-present}
 
-nth-past : {A : Type 0} (xs : List A) (n : ℕ) → length xs ≤ n → nth xs n ≡ none
-unfolding nth
-nth-past [] n h = refl
-nth-past (x ∷ xs) zero h = absurd (omega arith)
-nth-past (x ∷ xs) (suc n) h = nth-past xs n (omega arith)
+-- two bytes are an instruction where the operation is one of the three
+pub known-pair : (operation operand : ℕ) → operation ≤ 2 → instructionOf operation operand ≡ some (decode operation operand)
+unfolding instructionOf known
+known-pair operation operand h = rw (le-leb operation 2 h)
 
-nth-in : {A : Type 0} (xs : List A) (n : ℕ) (d : A) → n < length xs → nth xs n ≡ some (getD xs n d)
-unfolding nth
-nth-in [] n d h = absurd (omega arith)
-nth-in (x ∷ xs) zero d h = refl
-nth-in (x ∷ xs) (suc n) d h = nth-in xs n d (omega arith)
+pub unknown-pair : (operation operand : ℕ) → 2 < operation → instructionOf operation operand ≡ none
+unfolding instructionOf known
+unknown-pair operation operand h = rw (lt-leb operation 2 h)
 
--- Two bytes to an instruction: past the last pair none is left, before it the pair is read.
-module _ (code : List ℕ) (at : ℕ) where
-  pub read-past : length code / 2 ≤ at → readingAt code at ≡ none
-  unfolding readingAt
-  read-past h = nth-past (instructions code) at (omega (arith, instructions-length code))
+-- past the last pair of bytes there is none
+pub read-past : (code : List ℕ) (at : ℕ) → length code / 2 ≤ at → readingAt code at ≡ none
+unfolding readingAt
+read-past [] at h = refl
+read-past (x ∷ []) at h = refl
+read-past (x ∷ y ∷ rest) zero h = absurd (omega arith)
+read-past (x ∷ y ∷ rest) (suc at) h = read-past rest at (omega arith)
 
-  pub read-in : at < length code / 2 → readingAt code at ≡ some (decode (byte code (2 * at)) (byte code (2 * at + 1)))
-  unfolding readingAt byte
-  read-in h =
-      nth-in (instructions code) at (arg 0) (omega (arith, instructions-length code))
-      ∙ ap some (instructions-read code at (arg 0) (omega arith))
+-- before it the pair is read
+pub read-pair : (code : List ℕ) (at : ℕ) → at < length code / 2 → readingAt code at ≡ instructionOf (byte code (2 * at)) (byte code (2 * at + 1))
+unfolding readingAt byte
+read-pair [] at h = absurd (omega arith)
+read-pair (x ∷ []) at h = absurd (omega arith)
+read-pair (x ∷ y ∷ rest) zero h = refl
+read-pair (x ∷ y ∷ rest) (suc at) h =
+    let even : 2 * suc at ≡ suc (suc (2 * at)) = omega arith in
+    let odd : 2 * suc at + 1 ≡ suc (suc (2 * at + 1)) = omega arith in
+    rw (odd, even) (read-pair rest at (omega arith))
 
-  pub place-past : length code / 2 ≤ at → placeAfter code at ≡ at
-  unfolding placeAfter past
-  place-past h = rw (read-past h)
+-- where an instruction was read, a pair stood
+pub read-within : (code : List ℕ) (at : ℕ) (i : Instr) → readingAt code at ≡ some i → at < length code / 2
+unfolding readingAt
+read-within [] at i e = absurd (false≢true cc)
+read-within (x ∷ []) at i e = absurd (false≢true cc)
+read-within (x ∷ y ∷ rest) zero i e = omega arith
+read-within (x ∷ y ∷ rest) (suc at) i e = omega (arith, read-within rest at i e)
 
-  pub place-in : at < length code / 2 → placeAfter code at ≡ at + 1
-  unfolding placeAfter past
-  place-in h = rw (read-in h) (omega arith)
+-- where a reader stands afterwards
+pub place-read : (code : List ℕ) (at : ℕ) (i : Instr) → readingAt code at ≡ some i → placeAfter code at ≡ at + 1
+unfolding placeAfter past
+place-read code at i e = rw e (omega arith)
 
--- where none is left, none is left afterwards
+pub place-none : (code : List ℕ) (at : ℕ) → readingAt code at ≡ none → placeAfter code at ≡ at
+unfolding placeAfter past
+place-none code at e = rw e
+
+known-operation : (a c f x y : ℕ) → instructionRule a c f x y ≡ true → x ≤ 2
+unfolding instructionRule
+known-operation a c f zero y h = omega arith
+known-operation a c f (suc zero) y h = omega arith
+known-operation a c f (suc (suc zero)) y h = omega arith
+known-operation a c f (suc (suc (suc n))) y h = absurd (false≢true h)
+
+-- code that keeps number 9 reads as the model's instructions
+pub read-instructions : (a c f : ℕ) (code : List ℕ) → everyPair (instructionRule a c f) code ≡ true
+    → (at : ℕ) → readingAt code at ≡ nth (instructions code) at
+unfolding everyPair readingAt nth instructions
+read-instructions a c f [] e at = refl
+read-instructions a c f (x ∷ []) e at = refl
+read-instructions a c f (x ∷ y ∷ rest) e zero =
+    known-pair x y (known-operation a c f x y (and-left (instructionRule a c f x y) (everyPair (instructionRule a c f) rest) e))
+read-instructions a c f (x ∷ y ∷ rest) e (suc at) =
+    read-instructions a c f rest (and-right (instructionRule a c f x y) (everyPair (instructionRule a c f) rest) e) at
+
+-- where there is none, there is none however often it is asked
 none-left : (code : List ℕ) (at k : ℕ) → readingAt code at ≡ none → readings code at k ≡ replicate k none
 unfolding readings placeAfter past
 none-left code at zero e = refl
@@ -69,22 +109,43 @@ in-order code (x ∷ xs) at k left =
     (λ j. let next : at + suc j ≡ suc at + j = omega arith in rw next at (left (suc j))) in
     rw (one-more, given) (ap (λ (more : List (Option Instr)). some x ∷ more) (in-order code xs (suc at) k then))
 
--- the part that the body view gives is the method's code
-view-code : (b : List ℕ) (m : ℕ) (code : List ℕ) → bodyViewCall b m ≡ gives code → code ≡ codeOf b m
-unfolding bodyViewCall whenOpen onOpening require
-view-code b m code e = opened (opening b) e
+-- the part that the body view gives is the method's code, and keeps number 9
+view-code : (b : List ℕ) (m : ℕ) (code : List ℕ) → bodyViewCall b m ≡ gives code → (code ≡ codeOf b m) × (codeRule b m ≡ true)
+unfolding bodyViewCall whenOpen onOpening require modelOf
+view-code b m code e = opened (opening b) refl e
   where
-    present : (t : Bool) → require t 18 (gives (codeOf b m)) ≡ gives code → code ≡ codeOf b m
-    present true h = cc
-    present false h = cc
+    present : Rules b → (t : Bool) → ltb m (methodCount b) ≡ t → require t 18 (gives (codeOf b m)) ≡ gives code
+        → (code ≡ codeOf b m) × (codeRule b m ≡ true)
+    present rules true h e = (cc, rules .ofCode m (ltb-true m (methodCount b) h))
+    present rules false h e = (cc, cc)
 
-    opened : (a : Answer (List ℕ)) → onOpening a (modelOf b) (λ M. require (ltb m (M .methods)) 18 (gives (codeOf b m))) ≡ gives code
-        → code ≡ codeOf b m
-    opened (gives counts) h = present (ltb m (modelOf b .methods)) h
-    opened (refuses number values) h = cc
+    opened : (a : Answer (List ℕ)) → opening b ≡ a → onOpening a (modelOf b) (λ M. require (ltb m (M .methods)) 18 (gives (codeOf b m))) ≡ gives code
+        → (code ≡ codeOf b m) × (codeRule b m ≡ true)
+    opened (gives counts) o e = present (opened-rules b counts o) (ltb m (methodCount b)) refl e
+    opened (refuses number values) o e = (cc, cc)
 
 -- the law of the reader
 pub reads-body : (b : List ℕ) (m : ℕ) → ReadsBody b m
-unfolding modelOf readingAt
+unfolding modelOf codeRule
 reads-body b m code e k =
-    rw (view-code b m code e) (in-order (codeOf b m) (instructions (codeOf b m)) 0 k (λ j. let start : 0 + j ≡ j = omega arith in rw start refl))
+    let view = view-code b m code e in
+    let read : (j : ℕ) → readingAt (codeOf b m) (0 + j) ≡ nth (instructions (codeOf b m)) j =
+    (λ j. let start : 0 + j ≡ j = omega arith in rw start (read-instructions _ _ _ (codeOf b m) (view .1) j)) in
+    rw (view .0) (in-order (codeOf b m) (instructions (codeOf b m)) 0 k read)
+
+-- The three answers of the call for one instruction.
+module _ (b : List ℕ) (m n : ℕ) where
+  pub instruction-refused : (f : LayoutFinding) → Opens b (answer.Refused f)
+      → instructionCall b m n ≡ refuses (numberOf (saidOf f)) (valuesOf (saidOf f))
+  unfolding instructionCall
+  instruction-refused f o = not-opened b (λ M. require (ltb m (M .methods)) 18 (gives (nth (M .body m) n))) f o
+
+  pub instruction-absent : {t : Bundle} → Opens b (answer.Opened t) → t .methods ≤ m → instructionCall b m n ≡ refuses 18 []
+  unfolding instructionCall
+  instruction-absent o h = method-absent b m (λ M. gives (nth (M .body m) n)) o h
+
+  pub instruction-given : {t : Bundle} → Opens b (answer.Opened t) → m < t .methods → instructionCall b m n ≡ gives (readingAt (codeOf b m) n)
+  unfolding instructionCall modelOf codeRule
+  instruction-given o h =
+      let rule = rules-of (opened-of o) .ofCode m (omega (arith, counts-of (opened-of o))) in
+      method-present b m (λ M. gives (nth (M .body m) n)) o h ∙ ap gives (sym (read-instructions _ _ _ (codeOf b m) rule n))

@@ -2,13 +2,14 @@
 -- Assumes nothing.
 use Prim.Native.Nat.{ℕ, zero, suc, _+_}
 use mathlib.Core.Path.{_≡_}
+use mathlib.Core.Bool.{Bool, true, false}
 use mathlib.Core.List.{List, [], _∷_, _++_, map}
 use mathlib.Core.Option.{Option, none, some}
-use lib.Dec.{ltb}
+use lib.Dec.{ltb, leb}
 use lib.ListN.{length, replicate}
 use denote.Ref.{now}
 use Rattle.rules.specs.Layout.{Answer, gives, require}
-use Rattle.rules.specs.Model.{Instr, instructions, modelOf}
+use Rattle.rules.specs.Model.{Instr, decode, modelOf}
 use Rattle.rules.specs.Calls.{whenOpen, bodyViewCall}
 use Rattle.layout.specs.Instruction.{instr}
 use Rattle.curiumtoad.specs.declared.reader.BodyReader.{BodyReader}
@@ -24,12 +25,23 @@ nth [] n = none
 nth (x ∷ xs) zero = some x
 nth (x ∷ xs) (suc n) = nth xs n
 
--- A position counts instructions. The bytes may be any: one left over at the end is no instruction, and an operation above 2 is read as the machine
--- reads it (`decode`). The code of a method of a bundle that opens has neither.
-unfoldable pub readingAt : List ℕ → ℕ → Option Instr
-readingAt code at = nth (instructions code) at
+unfoldable pub known : Bool → Instr → Option Instr
+known true i = some i
+known false i = none
 
--- past what was read, and where it was when none is left
+-- "0 is ARG …, 1 is NEW …, 2 is SEND": bytes with another operation are no instruction
+unfoldable pub instructionOf : ℕ → ℕ → Option Instr
+instructionOf operation operand = known (leb operation 2) (decode operation operand)
+
+-- The instruction at a position of any bytes, counted in instructions: none past the end, none where one byte is left, none where the operation is
+-- unknown. The code of a method of a bundle that opens is whole and has no unknown operation, so there it is none at the end alone (`ReadsBody`).
+unfoldable pub readingAt : List ℕ → ℕ → Option Instr
+readingAt [] at = none
+readingAt (x ∷ []) at = none
+readingAt (x ∷ y ∷ rest) zero = instructionOf x y
+readingAt (x ∷ y ∷ rest) (suc at) = readingAt rest at
+
+-- past what was read, and where it was when there was none
 unfoldable pub past : Option Instr → ℕ → ℕ
 past none at = at
 past (some i) at = suc at

@@ -22,8 +22,7 @@ pub enum Reading {
     End,
 }
 
-// The work: the instruction at a position of any bytes. One byte alone is no instruction. An operation above 2 reads as SEND, as it does for the
-// machine; a bundle with one in a body does not open.
+// The work: the instruction at a position of any bytes. Where fewer than two bytes are left, or the operation is none of 0, 1 and 2, there is none.
 pub fn read_at(code: &[u8], at: usize) -> Reading
     ensures { λ r. ⌜ readingSaid r ≡ readingAt (now (code .entry)) at ⌝ }
 {
@@ -31,18 +30,21 @@ pub fn read_at(code: &[u8], at: usize) -> Reading
         return Reading::End;
     }
     let operation = byte_at(code, 2 * at);
+    if operation > 2 {
+        return Reading::End;
+    }
     let operand = byte_at(code, 2 * at + 1);
     Reading::Instruction(decoded(operation, operand))
 }
 
-// The position after that of the instruction just read; where none was left, the same.
+// Where a reader stands after reading there: past the instruction, or where it was when there was none.
 pub fn place_after(code: &[u8], at: usize) -> usize
     ensures { λ r. ⌜ r ≡ placeAfter (now (code .entry)) at ⌝ }
 {
-    if code.len() / 2 <= at {
-        return at;
+    match read_at(code, at) {
+        Reading::Instruction(_) => at + 1,
+        Reading::End => at,
     }
-    at + 1
 }
 
 // A reader at the first instruction.

@@ -4,7 +4,7 @@
 use borrow.Author.Needs.{needs}
 use mathlib.Core.Path.{sym}
 use Rattle.layout.proofs.Opened.{opened-of}
-use Rattle.curiumtoad.proofs.Called.{instruction-refused, instruction-absent, instruction-given}
+use Rattle.curiumtoad.proofs.Reading.{instruction-refused, instruction-absent, instruction-given}
 use Rattle.curiumtoad.proofs.reader.nth_instruction.Statement.{statement}
 use Rattle.curiumtoad.proofs.reader.nth_instruction.Tie as tie
 
@@ -50,7 +50,6 @@ returns-3 c =
     let k = c .before .before .before .before .before in
     let o = k .before .before in
     let g = o .before .before in
-    let code = c .before .code-of .ensures in
     cc
     (instruction-given (g .args .bundle .now) (g .args .method) (g .args .n)
     (rw (k .opening .given .1) at (o .«open» .ensures .1)) (search needs))

@@ -1,10 +1,11 @@
--- `curiumtoad::reader::read_at` meets its contract: past the last pair of bytes none is left, and before it the pair is decoded.
+-- `curiumtoad::reader::read_at` meets its contract: past the last pair of bytes there is none, and before it the pair is decoded, or its operation is
+-- unknown.
 -- Assumes nothing.
 use borrow.Author.Needs.{needs}
-use Prim.Native.Nat.{_*_, _+_, _<_}
-use native.Mathlib.Omega.{arith}
-use mathlib.Core.Path.{_≡_, sym}
-use Rattle.curiumtoad.proofs.Reading.{read-past, read-in}
+use Prim.Native.Nat.{_*_, _+_}
+use mathlib.Core.Path.{sym}
+use Rattle.rules.specs.Bytes.{byte}
+use Rattle.curiumtoad.proofs.Reading.{known-pair, unknown-pair, read-past, read-pair}
 use Rattle.curiumtoad.proofs.reader.read_at.Statement.{statement}
 use Rattle.curiumtoad.proofs.reader.read_at.Tie as tie
 
@@ -16,6 +17,13 @@ mul-byte-at c = search needs
 
 byte-at-requires : tie.Need-byte-at-requires
 byte-at-requires c κs = search needs
+
+returns-2 : tie.Need-returns-2
+returns-2 c =
+    let s = c .before .before .before .before in
+    let code = s .args .code .now in
+    let at = s .args .at in
+    cc (read-pair code at (search needs), unknown-pair (byte code (2 * at)) (byte code (2 * at + 1)) (rw (c .before .byte-at .ensures .0) at (c .if2 .taken)))
 
 mul-byte-at-2 : tie.Need-mul-byte-at-2
 mul-byte-at-2 c = search needs
@@ -29,10 +37,13 @@ byte-at-requires-2 c κs = search needs
 decoded-requires : tie.Need-decoded-requires
 decoded-requires c κs = search needs
 
-returns-2 : tie.Need-returns-2
-returns-2 c =
-    let s = c .before .before .before .before .before in
-    cc (read-in (s .args .code .now) (s .args .at) (search needs))
+returns-3 : tie.Need-returns-3
+returns-3 c =
+    let k = c .before .before in
+    let s = k .before .before .before .before in
+    let code = s .args .code .now in
+    let at = s .args .at in
+    cc (read-pair code at (search needs), known-pair (byte code (2 * at)) (byte code (2 * at + 1)) (rw (k .before .byte-at .ensures .0) at (k .if2 .left)))
 
 pub read-at-spec : {M : Type 1} → statement M
 read-at-spec =
@@ -41,8 +52,9 @@ read-at-spec =
     returns
     mul-byte-at
     byte-at-requires
+    returns-2
     mul-byte-at-2
     add-byte-at
     byte-at-requires-2
     decoded-requires
-    returns-2)
+    returns-3)
