@@ -6,8 +6,9 @@ use mathlib.Core.Path.{_≡_, refl, sym, ap, _∙_}
 use mathlib.Core.Bool.{Bool, true, false, false≢true}
 use mathlib.Core.List.{List, [], _∷_, _++_, map}
 use mathlib.Core.Option.{Option, none, some}
-use lib.Dec.{ltb, leb}
-use lib.ListN.{length, getD, replicate}
+use lib.Dec.{ltb}
+use lib.ListN.{length, replicate}
+use denote.Ref.{now}
 use borrow.Author.Tests.{ltb-true, le-leb, lt-leb}
 use Rattle.rules.specs.Bytes.{byte}
 use Rattle.rules.specs.Layout.{Answer, gives, refuses, opening, require, methodCount, instructionRule, everyPair, codeOf, codeRule}
@@ -20,8 +21,9 @@ use Rattle.layout.specs.declared.finding.LayoutFinding.{LayoutFinding}
 use Rattle.layout.specs.declared.finding.Opening.the-variants as answer
 use Rattle.layout.specs.Opening.{saidOf, Opens}
 use Rattle.layout.proofs.Opened.{rules-of, counts-of, opened-of}
+use Rattle.curiumtoad.specs.declared.reader.BodyReader.{BodyReader}
 use Rattle.curiumtoad.specs.Refusal.{numberOf, valuesOf}
-use Rattle.curiumtoad.specs.Reader.{nth, known, instructionOf, readingAt, past, placeAfter, instructionCall, readings, ReadsBody}
+use Rattle.curiumtoad.specs.Reader.{nth, known, instructionOf, readingAt, past, placeAfter, advanced, instructionCall, readings, ReadsBody}
 use Rattle.curiumtoad.proofs.Called.{not-opened, method-absent, method-present}
 
 -- two bytes are an instruction where the operation is one of the three
@@ -88,26 +90,30 @@ read-instructions a c f (x ∷ y ∷ rest) e (suc at) =
     read-instructions a c f rest (and-right (instructionRule a c f x y) (everyPair (instructionRule a c f) rest) e) at
 
 -- where there is none, there is none however often it is asked
-none-left : (code : List ℕ) (at k : ℕ) → readingAt code at ≡ none → readings code at k ≡ replicate k none
-unfolding readings placeAfter past
-none-left code at zero e = refl
-none-left code at (suc k) e = rw e (ap (λ (rest : List (Option Instr)). none ∷ rest) (none-left code at k e))
+none-left : (r : BodyReader) (k : ℕ) → readingAt (now (r .code)) (r .at) ≡ none → readings r k ≡ replicate k none
+unfolding readings
+none-left r zero e = refl
+none-left r (suc k) e =
+    let stays : advanced r ≡ r = ap (λ (at : ℕ). record { code = r .code; at = at }) (place-none (now (r .code)) (r .at) e) in
+    rw (e, stays) (ap (λ (rest : List (Option Instr)). none ∷ rest) (none-left r k e))
 
 -- what is left to read from a position on is read in order
-in-order : (code : List ℕ) (rest : List Instr) (at k : ℕ) → ((j : ℕ) → readingAt code (at + j) ≡ nth rest j)
-    → readings code at (length rest + k) ≡ map some rest ++ replicate k none
-unfolding readings placeAfter past nth
-in-order code [] at k left =
-    let here : at + 0 ≡ at = omega arith in
+in-order : (r : BodyReader) (rest : List Instr) (k : ℕ) → ((j : ℕ) → readingAt (now (r .code)) (r .at + j) ≡ nth rest j)
+    → readings r (length rest + k) ≡ map some rest ++ replicate k none
+unfolding readings nth
+in-order r [] k left =
+    let here : r .at + 0 ≡ r .at = omega arith in
     let none-more : 0 + k ≡ k = omega arith in
-    rw none-more (none-left code at k (rw here at (left 0)))
-in-order code (x ∷ xs) at k left =
-    let here : at + 0 ≡ at = omega arith in
+    rw none-more (none-left r k (rw here at (left 0)))
+in-order r (x ∷ xs) k left =
+    let here : r .at + 0 ≡ r .at = omega arith in
     let one-more : suc (length xs) + k ≡ suc (length xs + k) = omega arith in
-    let given : readingAt code at ≡ some x = rw here at (left 0) in
-    let then : (j : ℕ) → readingAt code (suc at + j) ≡ nth xs j =
-    (λ j. let next : at + suc j ≡ suc at + j = omega arith in rw next at (left (suc j))) in
-    rw (one-more, given) (ap (λ (more : List (Option Instr)). some x ∷ more) (in-order code xs (suc at) k then))
+    let given : readingAt (now (r .code)) (r .at) ≡ some x = rw here at (left 0) in
+    let then : (j : ℕ) → readingAt (now (r .code)) (advanced r .at + j) ≡ nth xs j =
+    (λ j.
+    let next : r .at + suc j ≡ advanced r .at + j = omega (arith, place-read (now (r .code)) (r .at) x given) in
+    rw next at (left (suc j))) in
+    rw (one-more, given) (ap (λ (more : List (Option Instr)). some x ∷ more) (in-order (advanced r) xs k then))
 
 -- the part that the body view gives is the method's code, and keeps number 9
 view-code : (b : List ℕ) (m : ℕ) (code : List ℕ) → bodyViewCall b m ≡ gives code → (code ≡ codeOf b m) × (codeRule b m ≡ true)
@@ -127,11 +133,13 @@ view-code b m code e = opened (opening b) refl e
 -- the law of the reader
 pub reads-body : (b : List ℕ) (m : ℕ) → ReadsBody b m
 unfolding modelOf codeRule
-reads-body b m code e k =
-    let view = view-code b m code e in
-    let read : (j : ℕ) → readingAt (codeOf b m) (0 + j) ≡ nth (instructions (codeOf b m)) j =
-    (λ j. let start : 0 + j ≡ j = omega arith in rw start (read-instructions _ _ _ (codeOf b m) (view .1) j)) in
-    rw (view .0) (in-order (codeOf b m) (instructions (codeOf b m)) 0 k read)
+reads-body b m r e start k =
+    let view = view-code b m (now (r .code)) e in
+    let read : (j : ℕ) → readingAt (now (r .code)) (r .at + j) ≡ nth (instructions (codeOf b m)) j =
+    (λ j.
+    let from : r .at + j ≡ j = omega arith in
+    rw (view .0, from) (read-instructions _ _ _ (codeOf b m) (view .1) j)) in
+    in-order r (instructions (codeOf b m)) k read
 
 -- The three answers of the call for one instruction.
 module _ (b : List ℕ) (m n : ℕ) where

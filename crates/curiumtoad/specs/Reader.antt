@@ -65,14 +65,14 @@ instructionSaid (answer.Refused r) = refusalSaid r
 unfoldable pub instructionCall : List ℕ → ℕ → ℕ → Answer (Option Instr)
 instructionCall b m n = whenOpen b (λ M. require (ltb m (M .methods)) 18 (gives (nth (M .body m) n)))
 
--- what a reader at this position gives in so many readings, one after another
-unfoldable pub readings : List ℕ → ℕ → ℕ → List (Option Instr)
-readings code at zero = []
-readings code at (suc k) = readingAt code at ∷ readings code (placeAfter code at) k
+-- what a reader gives in so many readings, one after another
+unfoldable pub readings : BodyReader → ℕ → List (Option Instr)
+readings r zero = []
+readings r (suc k) = readingAt (now (r .code)) (r .at) ∷ readings (advanced r) k
 
--- The law of the reader: of the part that the body view hands back it "gives one instruction after another, then says that none is left", however
--- often it is asked. The instructions are those of the model, which the machine and the check of bodies go by.
+-- The law of the reader: at the start of the part that the body view hands back it "gives one instruction after another, then says that none is left",
+-- however often it is asked. The instructions are those of the model, which the machine and the check of bodies go by.
 abbrev pub ReadsBody : List ℕ → ℕ → Type 0
 ReadsBody b m =
-    (code : List ℕ) → bodyViewCall b m ≡ gives code
-    → (k : ℕ) → readings code 0 (length (modelOf b .body m) + k) ≡ map some (modelOf b .body m) ++ replicate k none
+    (r : BodyReader) → bodyViewCall b m ≡ gives (now (r .code)) → r .at ≡ 0
+    → (k : ℕ) → readings r (length (modelOf b .body m) + k) ≡ map some (modelOf b .body m) ++ replicate k none

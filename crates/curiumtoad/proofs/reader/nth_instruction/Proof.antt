@@ -2,8 +2,12 @@
 -- position of the model's body.
 -- Assumes nothing.
 use borrow.Author.Needs.{needs}
-use mathlib.Core.Path.{sym}
+use Prim.Native.Nat.{ℕ}
+use mathlib.Core.Path.{sym, ap, _∙_}
+use mathlib.Core.List.{List}
+use Rattle.rules.specs.Layout.{gives}
 use Rattle.layout.proofs.Opened.{opened-of}
+use Rattle.curiumtoad.specs.Reader.{readingAt}
 use Rattle.curiumtoad.proofs.Reading.{instruction-refused, instruction-absent, instruction-given}
 use Rattle.curiumtoad.proofs.reader.nth_instruction.Statement.{statement}
 use Rattle.curiumtoad.proofs.reader.nth_instruction.Tie as tie
@@ -50,7 +54,9 @@ returns-3 c =
     let k = c .before .before .before .before .before in
     let o = k .before .before in
     let g = o .before .before in
-    cc
+    let code = c .before .code-of .ensures in
+    ap gives (c .nth-reading .ensures ∙ ap (λ (x : List ℕ). readingAt x (g .args .n)) code)
+    ∙ sym
     (instruction-given (g .args .bundle .now) (g .args .method) (g .args .n)
     (rw (k .opening .given .1) at (o .«open» .ensures .1)) (search needs))
 

@@ -3,8 +3,10 @@
 -- Assumes nothing.
 use borrow.Author.Needs.{needs}
 use Prim.Native.Nat.{_*_, _+_}
-use mathlib.Core.Path.{sym}
+use mathlib.Core.Path.{sym, ap, _∙_}
+use mathlib.Core.Option.{some}
 use Rattle.rules.specs.Bytes.{byte}
+use Rattle.rules.specs.Model.{decode}
 use Rattle.curiumtoad.proofs.Reading.{known-pair, unknown-pair, read-past, read-pair}
 use Rattle.curiumtoad.proofs.reader.read_at.Statement.{statement}
 use Rattle.curiumtoad.proofs.reader.read_at.Tie as tie
@@ -43,7 +45,12 @@ returns-3 c =
     let s = k .before .before .before .before in
     let code = s .args .code .now in
     let at = s .args .at in
-    cc (read-pair code at (search needs), known-pair (byte code (2 * at)) (byte code (2 * at + 1)) (rw (k .before .byte-at .ensures .0) at (k .if2 .left)))
+    let operation = k .before .byte-at .ensures .0 in
+    let operand = c .before .byte-at2 .ensures .0 in
+    ap some (c .decoded .ensures ∙ (λ i. decode (operation i) (operand i)))
+    ∙ sym
+    (read-pair code at (search needs)
+    ∙ known-pair (byte code (2 * at)) (byte code (2 * at + 1)) (rw operation at (k .if2 .left)))
 
 pub read-at-spec : {M : Type 1} → statement M
 read-at-spec =

@@ -9,7 +9,7 @@ use Rattle.curiumtoad.proofs.view.code_of.Statement.{statement}
 use Rattle.curiumtoad.proofs.view.code_of.Tie as tie
 
 body-span-requires : tie.Need-body-span-requires
-body-span-requires c κs = c .before .pre
+body-span-requires c κs = (c .before .pre .0, search needs)
 
 add-end : tie.Need-add-end
 add-end c = search needs
