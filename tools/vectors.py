@@ -140,6 +140,22 @@ def view(bundle, method):
     return 0, spans(bundle)[5][0] + word(record, 8), word(record, 10)
 
 
+def reading(code, position):
+    """the values of what is read at a position of any bytes, counted in instructions: one more than the operation, and the operand; both are 0 where
+    no whole instruction with a known operation stands"""
+    pair = code[2 * position:][:2]
+    return [pair[0] + 1, pair[1]] if len(pair) == 2 and pair[0] <= 2 else [0, 0]
+
+
+def instruction(bundle, method, position):
+    """number and values of what is read at a position of a method's code"""
+    opened, values = opening(bundle)
+    if opened:
+        return opened, values
+    number, start, length = view(bundle, method)
+    return number, [] if number else reading(bundle[start:][:length], position)
+
+
 def above(bundle):
     """for each class the set of those it is under"""
     (class_at, length), (parent_at, _) = spans(bundle)[:2]
@@ -343,6 +359,37 @@ def view_cases(folder):
     for bundle, number, values in opening_vectors(folder):
         if number:
             yield bundle, [(0, *refused(number, values))]
+
+
+def reader_cases(folder):
+    """(bundle, [(whether the bytes themselves are the code, method, position, number, values)])"""
+    def of_view(bundle, method, number, start, length):
+        """every instruction of the part, and some positions past them"""
+        past = [*range(length // 2, length // 2 + 2), METHODS, LONGEST, 2**63, 2**64 - 1]
+        code = bundle[start:][:length]
+        return [(False, method, at, number, [] if number else reading(code, at)) for at in [*range(length // 2), *past]]
+
+    def of_methods(bundle, methods):
+        return [call for m in methods for call in of_view(bundle, m, *view(bundle, m))]
+
+    for bundle in make.SAMPLES.values():
+        methods = opening(bundle)[1][3]
+        yield bundle, of_methods(bundle, [*range(methods), methods, LONGEST])
+    for entry, bundle in vectors(folder, "view.jsonl"):
+        answers = {call["view"][0]: call["answer"] for call in entry["calls"]}
+        yield bundle, [
+            call for m, answer in answers.items()
+            for call in of_view(bundle, m, answer["number"], answer.get("start", 0), answer.get("length", 0))]
+    long, too_long = longest()
+    for bundle in [long, too_long]:
+        yield bundle, of_methods(bundle, [0, 1, 255, 256, METHODS - 1, METHODS])
+    for bundle, number, values in opening_vectors(folder):
+        if number:
+            yield bundle, [(False, 0, 0, number, values)]
+    # Bytes that are no method's code: an unknown operation, a byte left over, none at all.
+    for code in [b"", b"\0", b"\0\1", b"\1\7\2", b"\2\0\3\0\1\5", b"\xff\0\0\xff", *make.SAMPLES.values()]:
+        ends = [(len(code) + 1) // 2, 2**63, 2**64 - 1]
+        yield code, [(True, 0, at, 0, reading(code, at)) for at in [*range(len(code) // 2), *ends]]
 
 
 def answer_values(answer):
@@ -668,6 +715,18 @@ def view_stream(folder):
     return stream, count
 
 
+def reader_stream(folder):
+    stream, count = [], 0
+    for bundle, calls in reader_cases(folder):
+        stream += little_endian(3, len(bundle)), bundle, little_endian(2, len(calls))
+        for raw, method, position, number, values in calls:
+            if not raw:
+                held(bundle, (number, values), instruction(bundle, method, position))
+            stream += bytes([raw]), little_endian(2, method), little_endian(8, position), expected(number, values)
+            count += 1
+    return b"".join(stream), count
+
+
 def main():
     folders = [argument for argument in sys.argv[1:] if argument != "--check"]
     if len(folders) != 1:
@@ -677,6 +736,7 @@ def main():
     for name, (stream, count) in [
         ("opening", opening_stream(folder)),
         ("view", view_stream(folder)),
+        ("reader", reader_stream(folder)),
         ("lookup", lookup_stream(folder)),
         ("run", call_stream(run_cases(folder))),
         ("check", call_stream(check_cases(folder))),

@@ -66,6 +66,22 @@ first-value (finding.Method k) = refl
 first-value (finding.Twin k) = refl
 first-value (finding.Code k) = refl
 
+-- A call that takes a method and no scratch: 18 where the method is absent, else what it says of the model.
+module _ {A : Type 0} (b : List ℕ) (m : ℕ) (call : Model → Answer A) where
+  pub method-absent : {t : Bundle} → Opens b (answer.Opened t) → t .methods ≤ m
+      → whenOpen b (λ M. require (ltb m (M .methods)) 18 (call M)) ≡ refuses 18 []
+  unfolding require
+  method-absent o h =
+      when-opened b (λ M. require (ltb m (M .methods)) 18 (call M)) o
+      ∙ rw (le-ltb m (modelOf b .methods) (rw (sym (counts-of (opened-of o) .methods)) h))
+
+  pub method-present : {t : Bundle} → Opens b (answer.Opened t) → m < t .methods
+      → whenOpen b (λ M. require (ltb m (M .methods)) 18 (call M)) ≡ call (modelOf b)
+  unfolding require
+  method-present o h =
+      when-opened b (λ M. require (ltb m (M .methods)) 18 (call M)) o
+      ∙ rw (lt-ltb m (modelOf b .methods) (rw (sym (counts-of (opened-of o) .methods)) h))
+
 -- The three answers of the body view.
 module _ (b : List ℕ) (m : ℕ) where
   pub view-refused : (f : LayoutFinding) → Opens b (answer.Refused f) → bodyViewCall b m ≡ refuses (numberOf (saidOf f)) (valuesOf (saidOf f))
@@ -73,16 +89,12 @@ module _ (b : List ℕ) (m : ℕ) where
   view-refused f o = not-opened b (λ M. require (ltb m (M .methods)) 18 (gives (codeOf b m))) f o
 
   pub view-absent : {t : Bundle} → Opens b (answer.Opened t) → t .methods ≤ m → bodyViewCall b m ≡ refuses 18 []
-  unfolding bodyViewCall require
-  view-absent o h =
-      when-opened b (λ M. require (ltb m (M .methods)) 18 (gives (codeOf b m))) o
-      ∙ rw (le-ltb m (modelOf b .methods) (rw (sym (counts-of (opened-of o) .methods)) h))
+  unfolding bodyViewCall
+  view-absent o h = method-absent b m (λ M. gives (codeOf b m)) o h
 
   pub view-given : {t : Bundle} → Opens b (answer.Opened t) → m < t .methods → bodyViewCall b m ≡ gives (codeOf b m)
-  unfolding bodyViewCall require
-  view-given o h =
-      when-opened b (λ M. require (ltb m (M .methods)) 18 (gives (codeOf b m))) o
-      ∙ rw (lt-ltb m (modelOf b .methods) (rw (sym (counts-of (opened-of o) .methods)) h))
+  unfolding bodyViewCall
+  view-given o h = method-present b m (λ M. gives (codeOf b m)) o h
 
 -- The scratch: as it was where the bundle does not open or the scratch is short, else the matrix.
 pub scratch-refused : (b scratch : List ℕ) (f : LayoutFinding) → saidOf f ≡ opening b → scratchAfter b scratch ≡ scratch

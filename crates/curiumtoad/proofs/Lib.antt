@@ -3,3 +3,4 @@ pub mod Sent
 pub mod Checking
 pub mod Judging
 pub mod Accepting
+pub mod Reading

@@ -5,3 +5,4 @@ pub mod Said
 pub mod Checked
 pub mod Alike
 pub mod Accepted
+pub mod Reader

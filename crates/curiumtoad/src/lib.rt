@@ -6,6 +6,7 @@ pub mod checked_run;
 pub mod lookup;
 pub mod opening;
 pub mod prepare;
+pub mod reader;
 pub mod refusal;
 pub mod run;
 pub mod run_accepted;

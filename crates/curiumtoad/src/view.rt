@@ -3,10 +3,14 @@ use crate::opening::finding;
 use crate::opening::number;
 use crate::opening::open;
 use crate::opening::record;
+use layout::bundle::Bundle;
 use layout::field::body_span;
 use layout::finding::Opening;
 ghost use mathlib.Core.Path.{_≡_};
+ghost use Prim.Native.Nat.{_<_};
+ghost use Rattle.rules.specs.Layout.{codeOf};
 ghost use Rattle.rules.specs.Calls.{bodyViewCall};
+ghost use Rattle.layout.specs.Opened.{Opened};
 ghost use Rattle.curiumtoad.specs.Refusal.{partOf, numberOf, recordOf};
 
 // The code of a method. An enum cannot hold a part of the bundle, so a refusal leaves by the two lent numbers: the number of the refusal and the
@@ -34,6 +38,15 @@ pub fn body_view<'a>(
         return &bundle[..0];
     }
     *refusal = 0;
+    code_of(bundle, b, method)
+}
+
+// The code of a method of an opened bundle.
+pub(crate) fn code_of<'a>(bundle: &'a [u8], b: Bundle, method: usize) -> &'a [u8]
+    requires { ⌜ Opened (now bundle) b ⌝ }
+    requires { ⌜ method < b .methods ⌝ }
+    ensures { λ r. ⌜ now r ≡ codeOf (now (bundle .entry)) method ⌝ }
+{
     let span = body_span(bundle, b, method);
     let at = span.at;
     let end = at + span.len;

@@ -1,10 +1,7 @@
 -- `curiumtoad::view::body_view` meets its contract: the part, the number and the record are those of the call's answer.
 -- Assumes nothing.
 use borrow.Author.Needs.{needs}
-use Prim.Native.Nat.{_+_, _-_}
-use native.Mathlib.Omega.{arith}
-use mathlib.Core.Path.{_≡_, refl, _∙_}
-use Rattle.rules.specs.Bytes.{part}
+use mathlib.Core.Path.{refl, _∙_}
 use Rattle.layout.proofs.Opened.{opened-of}
 use Rattle.curiumtoad.proofs.Called.{first-value, view-refused, view-absent, view-given}
 use Rattle.curiumtoad.proofs.view.body_view.Statement.{statement}
@@ -49,34 +46,18 @@ returns-2 c =
     let g = o .before .before in
     rw (view-absent (g .args .bundle .now) (g .args .method) (rw (k .opening .given .1) at (o .«open» .ensures .1)) (search needs)) (refl, (refl, refl))
 
-body-span-requires : tie.Need-body-span-requires
-body-span-requires c κs =
+code-of-requires : tie.Need-code-of-requires
+code-of-requires c κs =
     let k = c .before .before .before in
     (opened-of (rw (k .opening .given .1) at (k .before .before .«open» .ensures .1)), search needs)
 
-add-end : tie.Need-add-end
-add-end c = search needs
-
-sub-result : tie.Need-sub-result
-sub-result c = search needs
-
-part-result-start : tie.Need-part-result-start
-part-result-start c = search needs
-
-part-result-end : tie.Need-part-result-end
-part-result-end c = search needs
-
 returns-3 : tie.Need-returns-3
-unfolding part
 returns-3 c =
-    let s = c .before .before in
-    let k = s .before .before .before .before in
+    let k = c .before .before .before .before in
     let o = k .before .before in
     let g = o .before .before in
-    let span = s .body-span .result in
-    let size : span .at + span .len - span .at ≡ span .len = omega arith in
-    rw (size, view-given (g .args .bundle .now) (g .args .method) (rw (k .opening .given .1) at (o .«open» .ensures .1)) (search needs))
-    (s .body-span .ensures .code, (refl, refl))
+    rw (view-given (g .args .bundle .now) (g .args .method) (rw (k .opening .given .1) at (o .«open» .ensures .1)) (search needs))
+    (c .code-of .ensures, (refl, refl))
 
 pub body-view-spec : {M : Type 1} → statement M
 body-view-spec =
@@ -92,9 +73,5 @@ body-view-spec =
     returns
     slice-aggregate-result-2
     returns-2
-    body-span-requires
-    add-end
-    sub-result
-    part-result-start
-    part-result-end
+    code-of-requires
     returns-3)

@@ -1,0 +1,35 @@
+-- `curiumtoad::view::code_of` meets its contract: the part from the span's place on, as long as the span.
+-- Assumes nothing.
+use borrow.Author.Needs.{needs}
+use Prim.Native.Nat.{_+_, _-_}
+use native.Mathlib.Omega.{arith}
+use mathlib.Core.Path.{_≡_}
+use Rattle.rules.specs.Bytes.{part}
+use Rattle.curiumtoad.proofs.view.code_of.Statement.{statement}
+use Rattle.curiumtoad.proofs.view.code_of.Tie as tie
+
+body-span-requires : tie.Need-body-span-requires
+body-span-requires c κs = (c .before .pre .0, search needs)
+
+add-end : tie.Need-add-end
+add-end c = search needs
+
+sub-result : tie.Need-sub-result
+sub-result c = search needs
+
+part-result-start : tie.Need-part-result-start
+part-result-start c = search needs
+
+part-result-end : tie.Need-part-result-end
+part-result-end c = search needs
+
+returns : tie.Need-returns
+unfolding part
+returns c =
+    let s = c .before .before in
+    let span = s .body-span .result in
+    let size : span .at + span .len - span .at ≡ span .len = omega arith in
+    rw size (s .body-span .ensures .code)
+
+pub code-of-spec : {M : Type 1} → statement M
+code-of-spec = tie.close (tie.spec body-span-requires add-end sub-result part-result-start part-result-end returns)
