@@ -96,7 +96,7 @@ module _ {b : List ℕ} {t : Bundle} (o : Opened b t) where
 
 -- a list's first elements, by their places in the list
 module _ (list : List ℕ) (count : ℕ) (h : count ≤ length list) where
-  every-judged : (p : ℕ → Bool) → Judged (every p (take count list)) (λ i. p (getD list i 0)) count
+  pub every-judged : (p : ℕ → Bool) → Judged (every p (take count list)) (λ i. p (getD list i 0)) count
   every-judged p =
       let long = length-take-le count list h in
       record {
