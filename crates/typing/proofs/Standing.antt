@@ -10,7 +10,7 @@ use lib.Dec.{eqb}
 use lib.ListN.{length, getD, take, drop, length-drop}
 use lib.Seq.{getD-drop, drop-drop}
 use borrow.Author.Tests.{eqb-true, eq-eqb}
-use Rattle.rules.specs.Bounded.{every, keep, matching}
+use Rattle.rules.specs.Bounded.{keep, matching}
 use Rattle.rules.specs.Model.{Model, Wellformed, modelOf}
 use Rattle.rules.specs.Subclass.{subclass}
 use Rattle.rules.specs.Lookup.{asSpecific, select}

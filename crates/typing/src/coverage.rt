@@ -102,8 +102,8 @@ fn narrow(
     kept
 }
 
-// Writes enough of the methods that are left with class k at the place into the next list, and says how many there are. With every place filled those
-// left are few or looked at once, and the tuples are many, so none is dropped then.
+// Writes enough of the methods that are left with class k at the place into the next list, and says how many there are. At the last place none is
+// dropped: there the list serves one tuple only, and dropping would cost more than selecting from it.
 fn next_methods(
     bytes: &[u8],
     b: Bundle,

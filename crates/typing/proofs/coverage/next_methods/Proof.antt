@@ -1,13 +1,11 @@
 -- `typing::coverage::next_methods` meets its contract: what is narrowed at the last place is handed on whole, and elsewhere without the methods that
 -- another stands for.
 -- Assumes nothing.
-use Prim.Native.Nat.{ℕ, _<_}
+use Prim.Native.Nat.{ℕ}
 use native.Mathlib.Omega.{arith}
-use mathlib.Core.Path.{_≡_, sym, _∙_}
 use mathlib.Core.List.{List·Memᴰ}
 use lib.ListN.{take}
 use borrow.Author.Needs.{needs}
-use Rattle.rules.specs.Layout.{places}
 use Rattle.rules.specs.Model.{modelOf}
 use Rattle.rules.proofs.Lists.{keep-mem}
 use Rattle.layout.proofs.Opened.{wellformed-of}
