@@ -295,6 +295,11 @@ def most_methods():
     return make.bundle(flat(CLASSES), [PLACES], [(0, [0] * PLACES, 1)], [(0, own, own, 1, [(make.NEW, 1)]) for own in places])
 
 
+def chained(places):
+    """the same tuples over a chain of classes, with a method for each of the given specialisers, most of which apply to most tuples"""
+    return make.bundle(chain(CLASSES), [PLACES], [(0, [0] * PLACES, 0)], [(0, own, own, 0, [(make.NEW, 0)]) for own in places])
+
+
 def without_method():
     return make.bundle(flat(1), [0], [(0, [], 0)])
 
@@ -561,6 +566,10 @@ def check_cases(folder):
     yield without_method(), [rowless(SCRATCH, nothing, 0, 0, 10, [0, 0, 0, 0])]
     yield most_tuples(False), [rowless(SCRATCH, nothing, 0, 0, 0, [])]
     yield most_methods(), [rowless(SCRATCH, nothing, 0, 0, 0, [])]
+    # Methods that the first places tell apart, and methods that the last alone does, the general one first and last.
+    last = [[0, 0, k] for k in range(CLASSES)]
+    for places in [[[i, j, 0] for i in range(22) for j in range(23)], last, last[::-1]]:
+        yield chained(places), [rowless(SCRATCH, nothing, 0, 0, 0, [])]
     yield most_tuples(True), [rowless(SCRATCH, nothing, 0, 0, 13, [0, *[CLASSES - 1] * PLACES, 1])]
     for bundle, calls in scratch_calls(folder, nothing):
         yield bundle, [rowless(*call) for call in calls]

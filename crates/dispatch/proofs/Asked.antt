@@ -15,8 +15,9 @@ use Rattle.rules.specs.Model.{Model, modelOf, present}
 use Rattle.rules.specs.Subclass.{subclass, under}
 use Rattle.rules.specs.Lookup.{applies, applicable, asSpecific, leads, unbeaten}
 use Rattle.rules.specs.Calls.{scratchBytes, rowBytes}
-use Rattle.rules.proofs.Lists.{and-left, and-right, and-both, every-from, every-place, every-places, every-broken, matching-from, matching-at}
+use Rattle.rules.proofs.Lists.{and-left, and-right, and-both, every-mem, every-from, every-place, every-places, every-broken, matching-from, matching-at}
 use Rattle.rules.proofs.Lookup.{applicable-candidate}
+use Rattle.rules.proofs.Selection.{MethodOf}
 use Rattle.layout.specs.Opened.{Opened}
 use Rattle.layout.specs.declared.bundle.Bundle.{Bundle}
 use Rattle.layout.proofs.Opened.{wellformed-of, counts-of}
@@ -95,7 +96,7 @@ module _ {b : List ℕ} {t : Bundle} (o : Opened b t) where
 
 -- a list's first elements, by their places in the list
 module _ (list : List ℕ) (count : ℕ) (h : count ≤ length list) where
-  every-judged : (p : ℕ → Bool) → Judged (every p (take count list)) (λ i. p (getD list i 0)) count
+  pub every-judged : (p : ℕ → Bool) → Judged (every p (take count list)) (λ i. p (getD list i 0)) count
   every-judged p =
       let long = length-take-le count list h in
       record {
@@ -128,6 +129,16 @@ module _ (list : List ℕ) (count : ℕ) (h : count ≤ length list) where
       let counts = counts-of o in
       let below = ltb-true m (modelOf b .methods) (and-left (ltb m (modelOf b .methods)) (eqb (modelOf b .function m) f) e) in
       (omega arith, eqb-true (modelOf b .function m) f (and-right (ltb m (modelOf b .methods)) (eqb (modelOf b .function m) f) e))
+
+-- the same by membership
+pub each-method : {M : Model} {f : ℕ} {ms : List ℕ} → Listed M f ms → (n : ℕ) → List·Memᴰ n ms → MethodOf M f n
+unfolding methodOf
+each-method {M} {f} {ms} (listed e) n h =
+    let t = every-mem (methodOf M f) ms e h in
+    record {
+      bound = ltb-true n (M .methods) (and-left (ltb n (M .methods)) (eqb (M .function n) f) t);
+      ofFunction = eqb-true (M .function n) f (and-right (ltb n (M .methods)) (eqb (M .function n) f) t);
+    }
 
 -- the applicable methods of a function are methods of it
 pub applicable-listed : (M : Model) (f : ℕ) (args : List ℕ) → Listed M f (applicable M f args)

@@ -112,7 +112,40 @@ fn rival(
     0
 }
 
-// The method of the list that is at least as specific as every other: a candidate is dropped from the inner loop when one rival is not above it.
+// The position of a method that is at least as specific as the one held before it: where the search for the leader had best begin. Any position of the
+// list would do, since the search comes to every other.
+fn likely(
+    bytes: &[u8],
+    b: Bundle,
+    scratch: &[u8],
+    f: usize,
+    n: usize,
+    list: &[usize],
+    count: usize,
+) -> usize
+    requires { ⌜ Opened (now bytes) b ⌝ }
+    requires { ⌜ Filled (modelOf (now bytes)) (now scratch) ⌝ }
+    requires { ⌜ n ≡ (modelOf (now bytes)) .arity f ⌝ }
+    requires { ⌜ count ≤ length (now list) ⌝ }
+    requires { ⌜ Listed (modelOf (now bytes)) f (take count (now list)) ⌝ }
+    requires { ⌜ 0 < count ⌝ }
+    ensures { λ r. ⌜ r < count ⌝ }
+{
+    let mut held = 0;
+    let mut i = 1;
+    while i < count {
+        let k = i;
+        i += 1;
+        if !as_specific(bytes, b, scratch, n, list[k], list[held]) {
+            continue;
+        }
+        held = k;
+    }
+    held
+}
+
+// The method of the list that is at least as specific as every other: a candidate is dropped from the inner loop when one rival is not above it. The
+// likely one is tried first, then the list from its beginning; a list has no two leaders.
 pub fn select(
     bytes: &[u8],
     b: Bundle,
@@ -132,10 +165,12 @@ pub fn select(
     if count == 0 {
         return Found::Missing;
     }
-    let mut i = 0;
-    'candidates: while i < count {
-        let m = list[i];
-        i += 1;
+    let mut at = likely(bytes, b, scratch, f, n, list, count);
+    let mut next = 0;
+    'candidates: while at < count {
+        let m = list[at];
+        at = next;
+        next += 1;
         let mut j = 0;
         while j < count {
             let o = list[j];

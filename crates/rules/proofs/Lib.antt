@@ -5,6 +5,7 @@ pub mod Places
 pub mod Wellformed
 pub mod Subclass
 pub mod Lookup
+pub mod Selection
 pub mod Coverage
 pub mod Types
 pub mod Machine

@@ -59,7 +59,7 @@ unfolding asSpecific
 asSpecific-itself M m = under-itself M (M .specialisers m)
 
 -- what leads a list is as specific as each of its elements, itself included
-leads-all : (M : Model) (ms : List ℕ) (m : ℕ) → leads M ms m ≡ true → (n : ℕ) → List·Memᴰ n ms → asSpecific M m n ≡ true
+pub leads-all : (M : Model) (ms : List ℕ) (m : ℕ) → leads M ms m ≡ true → (n : ℕ) → List·Memᴰ n ms → asSpecific M m n ≡ true
 unfolding leads
 leads-all M ms m e n h = go (or-cases (eqb n m) (asSpecific M m n) (every-mem (λ n. eqb n m || asSpecific M m n) ms e h))
   where
@@ -67,11 +67,11 @@ leads-all M ms m e n h = go (or-cases (eqb n m) (asSpecific M m n) (every-mem (�
     go (inl q) = rw (eqb-true n m q) (asSpecific-itself M m)
     go (inr q) = q
 
-all-leads : (M : Model) (ms : List ℕ) (m : ℕ) → ((n : ℕ) → List·Memᴰ n ms → asSpecific M m n ≡ true) → leads M ms m ≡ true
+pub all-leads : (M : Model) (ms : List ℕ) (m : ℕ) → ((n : ℕ) → List·Memᴰ n ms → asSpecific M m n ≡ true) → leads M ms m ≡ true
 unfolding leads
 all-leads M ms m h = every-from (λ n. eqb n m || asSpecific M m n) ms (λ n k. or-right (eqb n m) (asSpecific M m n) (h n k))
 
-unbeaten-alone : (M : Model) (ms : List ℕ) (m : ℕ) → unbeaten M ms m ≡ true → (n : ℕ) → List·Memᴰ n ms → (n ≡ m → ⊥) → asSpecific M n m ≡ false
+pub unbeaten-alone : (M : Model) (ms : List ℕ) (m : ℕ) → unbeaten M ms m ≡ true → (n : ℕ) → List·Memᴰ n ms → (n ≡ m → ⊥) → asSpecific M n m ≡ false
 unfolding unbeaten
 unbeaten-alone M ms m e n h d =
     go (or-cases (eqb n m) (not (asSpecific M n m)) (every-mem (λ n. eqb n m || not (asSpecific M n m)) ms e h))
@@ -80,7 +80,7 @@ unbeaten-alone M ms m e n h d =
     go (inl q) = absurd (d (eqb-true n m q))
     go (inr q) = not-true (asSpecific M n m) q
 
-alone-unbeaten : (M : Model) (ms : List ℕ) (m : ℕ) → ((n : ℕ) → List·Memᴰ n ms → (n ≡ m) ⊎ (asSpecific M n m ≡ false)) → unbeaten M ms m ≡ true
+pub alone-unbeaten : (M : Model) (ms : List ℕ) (m : ℕ) → ((n : ℕ) → List·Memᴰ n ms → (n ≡ m) ⊎ (asSpecific M n m ≡ false)) → unbeaten M ms m ≡ true
 unfolding unbeaten
 alone-unbeaten M ms m h = every-from (λ n. eqb n m || not (asSpecific M n m)) ms (λ n k. go n (h n k))
   where
@@ -165,29 +165,33 @@ applicable-rising : (M : Model) (f : ℕ) (args : List ℕ) → Rising (applicab
 unfolding applicable
 applicable-rising M f args = rising-keep (λ m. eqb (M .function m) f && applies M args m) (upto (M .methods)) (rising-upto (M .methods))
 
-module _ (M : Model) (w : Wellformed M) (f : ℕ) (args : List ℕ) where
-  specific-trans : (a b c : ℕ) → List·Memᴰ a (applicable M f args) → asSpecific M a b ≡ true → asSpecific M b c ≡ true → asSpecific M a c ≡ true
+-- methods of one function, in a bundle that has opened
+module _ (M : Model) (w : Wellformed M) where
+  pub specific-trans : (a b c : ℕ) → a < M .methods → asSpecific M a b ≡ true → asSpecific M b c ≡ true → asSpecific M a c ≡ true
   unfolding asSpecific
-  specific-trans a b c h =
-      under-trans M w (M .specialisers a) (M .specialisers b) (M .specialisers c)
-      (w .specialisers-present a (applicable-candidate M f args h .bound))
+  specific-trans a b c h = under-trans M w (M .specialisers a) (M .specialisers b) (M .specialisers c) (w .specialisers-present a h)
 
-  -- methods of one function with equal specialisers are one method
-  no-twin : (a b : ℕ) → Candidate M f args a → Candidate M f args b → M .specialisers a ≡ M .specialisers b → a ≡ b
-  no-twin a b p q e =
-      let below : ¬ (a < b) = λ l. w .no-twins b a (q .bound) l (q .ofFunction ∙ sym (p .ofFunction)) (sym e) in
-      let above : ¬ (b < a) = λ l. w .no-twins a b (p .bound) l (p .ofFunction ∙ sym (q .ofFunction)) e in
+  -- two with equal specialisers are one
+  no-twin : (a b : ℕ) → a < M .methods → b < M .methods → M .function a ≡ M .function b → M .specialisers a ≡ M .specialisers b → a ≡ b
+  no-twin a b p q g e =
+      let below : ¬ (a < b) = λ l. w .no-twins b a q l (sym g) (sym e) in
+      let above : ¬ (b < a) = λ l. w .no-twins a b p l g e in
       omega arith
 
-  specific-antisym : (a b : ℕ) → Candidate M f args a → Candidate M f args b → asSpecific M a b ≡ true → asSpecific M b a ≡ true → a ≡ b
+  -- and so are two that are each at least as specific as the other
+  pub specific-antisym : (a b : ℕ) → a < M .methods → b < M .methods → M .function a ≡ M .function b → asSpecific M a b ≡ true → asSpecific M b a ≡ true
+      → a ≡ b
   unfolding asSpecific
-  specific-antisym a b p q e g =
-      no-twin a b p q
-      (under-antisym M w (M .specialisers a) (M .specialisers b) (w .specialisers-present a (p .bound)) e g)
+  specific-antisym a b p q g e r =
+      no-twin a b p q g (under-antisym M w (M .specialisers a) (M .specialisers b) (w .specialisers-present a p) e r)
+
+module _ (M : Model) (w : Wellformed M) (f : ℕ) (args : List ℕ) where
+  candidates-antisym : (a b : ℕ) → Candidate M f args a → Candidate M f args b → asSpecific M a b ≡ true → asSpecific M b a ≡ true → a ≡ b
+  candidates-antisym a b p q = specific-antisym M w a b (p .bound) (q .bound) (p .ofFunction ∙ sym (q .ofFunction))
 
   pub leader-unique : (m n : ℕ) → Leader M f args m → Leader M f args n → m ≡ n
   leader-unique m n p q =
-      specific-antisym m n (p .candidate) (q .candidate) (p .specific n (q .candidate)) (q .specific m (p .candidate))
+      candidates-antisym m n (p .candidate) (q .candidate) (p .specific n (q .candidate)) (q .specific m (p .candidate))
 
   -- below each candidate stands a rival
   rival-below : (c : ℕ) → List·Memᴰ c (applicable M f args)
@@ -196,8 +200,8 @@ module _ (M : Model) (w : Wellformed M) (f : ℕ) (args : List ℕ) where
   rival-below c h =
       let ms = applicable M f args in
       let r =
-      minimal (asSpecific M) ms (asSpecific-itself M) specific-trans
-      (λ a b p q. specific-antisym a b (applicable-candidate M f args p) (applicable-candidate M f args q)) ms (λ n k. k) c h in
+      minimal (asSpecific M) ms (asSpecific-itself M) (λ a b c p. specific-trans M w a b c (applicable-candidate M f args p .bound))
+      (λ a b p q. candidates-antisym a b (applicable-candidate M f args p) (applicable-candidate M f args q)) ms (λ n k. k) c h in
       (r .least, keep-in (unbeaten M ms) ms (r .member) (alone-unbeaten M ms (r .least) (r .alone)), r .under)
 
   rival-of : (m : ℕ) → List·Memᴰ m (rivals M (applicable M f args)) → Rival M f args m

@@ -6,5 +6,6 @@ pub mod Bodies
 pub mod Operands
 pub mod Broken
 pub mod Judging
+pub mod Standing
 pub mod Narrowing
 pub mod Searching

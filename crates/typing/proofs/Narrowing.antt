@@ -19,11 +19,15 @@ use Rattle.rules.specs.Lookup.{applicable, applicableSoFar, select, lookup}
 use Rattle.rules.specs.Coverage.{concreteClass}
 use Rattle.rules.proofs.Lists.{and-left, and-both, every-mem, every-from, keep-mem, keep-length, keep-take-hit, length-upto, upto-below}
 use Rattle.rules.proofs.Lookup.{narrow-place, narrow-all}
+use Rattle.rules.proofs.Selection.{MethodOf}
 use Rattle.layout.specs.Opened.{Opened}
 use Rattle.layout.specs.declared.bundle.Bundle.{Bundle}
 use Rattle.layout.proofs.Opened.{wellformed-of, counts-of}
 use Rattle.dispatch.specs.Listed.{methodOf, Listed, listed}
+use Rattle.dispatch.proofs.Asked.{each-method}
+use Rattle.typing.specs.Needed.{Enough}
 use Rattle.typing.specs.Searched.{tried, above, Filling}
+use Rattle.typing.proofs.Standing.{enough-same, enough-inside, enough-narrowed, enough-enough, enough-selected}
 
 -- an element that passes, stored behind what is kept of those before it
 pub stored : (p : ℕ → Bool) (xs list : List ℕ) (i kept m : ℕ) → i < length xs → kept < length list → take kept list ≡ keep p (take i xs)
@@ -53,6 +57,9 @@ module _ (M : Model) where
           and-both (ltb m (M .methods)) (eqb (M .function m) f) (lt-ltb m (M .methods) (upto-below (M .methods) k))
           (and-left (eqb (M .function m) f) (under M filled (take (length filled) (M .specialisers m))) e)
 
+  left-methods : (f : ℕ) (filled : List ℕ) → (m : ℕ) → List·Memᴰ m (applicableSoFar M f filled) → MethodOf M f m
+  left-methods f filled = each-method (left-listed f filled)
+
   pub left-few : (f : ℕ) (filled : List ℕ) → length (applicableSoFar M f filled) ≤ M .methods
   unfolding applicableSoFar
   left-few f filled =
@@ -67,6 +74,11 @@ module _ (M : Model) where
       one x (inl m) = every-mem (λ c. ltb c (M .classes)) xs e m
       one x (inr m) = rw (List·Memᴰ·eq-of-singleton m) (lt-ltb k (M .classes) h)
 
+-- a part of a list of methods of a function is one
+pub part-listed : {M : Model} {f : ℕ} {all part : List ℕ} → Listed M f all → ((m : ℕ) → List·Memᴰ m part → List·Memᴰ m all) → Listed M f part
+part-listed {M} {f} {all} {part} (listed e) inside =
+    listed (every-from (methodOf M f) part (λ m h. every-mem (methodOf M f) all e (inside m h)))
+
 -- the filled places, with one more filled
 pub chosen-more : (chosen : List ℕ) (place k : ℕ) → place < length chosen → take (place + 1) (set chosen place k) ≡ take place chosen ++ (k ∷ [])
 chosen-more chosen place k h = rw (add-one place, take-suc-set chosen place k h)
@@ -77,8 +89,8 @@ module _ {b : List ℕ} {t : Bundle} (o : Opened b t) {s f n : ℕ} where
       → select (modelOf b) (take count list) ≡ lookup (modelOf b) (modelOf b .sigFunction s) (take n chosen)
   unfolding lookup
   filled-lookup {chosen} g =
-      ap (select (modelOf b))
-      (g .methods ∙ narrow-all (modelOf b) (wellformed-of o) f (take n chosen) (length-take-le n chosen (g .room) ∙ g .arguments))
+      enough-selected (modelOf b) (wellformed-of o) f (left-methods (modelOf b) f (take n chosen)) n (g .methods)
+      ∙ ap (select (modelOf b)) (narrow-all (modelOf b) (wellformed-of o) f (take n chosen) (length-take-le n chosen (g .room) ∙ g .arguments))
       ∙ ap (λ (x : ℕ). select (modelOf b) (applicable (modelOf b) x (take n chosen))) (g .ofSignature)
 
   -- with no place filled all methods of the function are left
@@ -94,12 +106,12 @@ module _ {b : List ℕ} {t : Bundle} (o : Opened b t) {s f n : ℕ} where
         room = r;
         classes = refl;
         counted = c;
-        methods = m;
+        methods = enough-same (modelOf b) 0 m;
       }
 
   module _ {place count : ℕ} {chosen list : List ℕ} (g : Filling (modelOf b) s f n place chosen list count) where
     pub filling-listed : Listed (modelOf b) f (take count list)
-    filling-listed = rw (g .methods) (left-listed (modelOf b) f (take place chosen))
+    filling-listed = part-listed (left-listed (modelOf b) f (take place chosen)) (λ m h. enough-inside (modelOf b) place (g .methods) h)
 
     -- the signature has a class for each of the arguments, and no more than the layout has places
     pub filling-arguments : length (modelOf b .sigArgs s) ≡ n
@@ -114,7 +126,8 @@ module _ {b : List ℕ} {t : Bundle} (o : Opened b t) {s f n : ℕ} where
     pub filling-few : count ≤ t .methods
     filling-few =
         let counts = counts-of o in
-        let same = ap length (g .methods) in
+        let same = ap length (g .methods .kept) in
+        let part = keep-length (g .methods .passes) (applicableSoFar (modelOf b) f (take place chosen)) in
         omega (arith, length-take-le count list (g .counted), left-few (modelOf b) f (take place chosen))
 
     -- the same places after a search that keeps them
@@ -133,7 +146,7 @@ module _ {b : List ℕ} {t : Bundle} (o : Opened b t) {s f n : ℕ} where
 
     -- a place more, with the methods left narrowed
     pub filling-more : (k : ℕ) (next : List ℕ) (kept : ℕ) → place < n → k < t .classes → kept ≤ length next
-        → take kept next ≡ keep (above (modelOf b) place k) (take count list)
+        → Enough (modelOf b) (place + 1) (keep (above (modelOf b) place k) (take count list)) (take kept next)
         → Filling (modelOf b) s f n (place + 1) (set chosen place k) next kept
     filling-more k next kept h l r e =
         let M = modelOf b in
@@ -151,9 +164,10 @@ module _ {b : List ℕ} {t : Bundle} (o : Opened b t) {s f n : ℕ} where
           classes = rw (chosen-more chosen place k inside) (present-more M (take place chosen) k (g .classes) (omega arith));
           counted = r;
           methods =
-              e
-              ∙ ap (keep (above M place k)) (g .methods)
-              ∙ subst (λ (i : ℕ). keep (above M i k) (applicableSoFar M f (take place chosen)) ≡ applicableSoFar M f (take place chosen ++ (k ∷ []))) long
+              subst (λ (l : List ℕ). Enough M (place + 1) l (take kept next))
+              (subst (λ (i : ℕ). keep (above M i k) (applicableSoFar M f (take place chosen)) ≡ applicableSoFar M f (take place chosen ++ (k ∷ []))) long
               (narrow-place M f (take place chosen) k long-enough)
-              ∙ ap (applicableSoFar M f) (sym (chosen-more chosen place k inside));
+              ∙ ap (applicableSoFar M f) (sym (chosen-more chosen place k inside)))
+              (enough-enough M w f (λ m h. left-methods M f (take place chosen) m (keep-mem (above M place k) (applicableSoFar M f (take place chosen)) h .0))
+              (place + 1) (enough-narrowed M place k (g .methods)) e);
         }

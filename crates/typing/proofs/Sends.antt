@@ -14,10 +14,10 @@ use Rattle.rules.specs.Model.{Model}
 use Rattle.rules.specs.Types.{Static, inType, licenses, licensing, sendType}
 use Rattle.rules.specs.Calls.{rowBytes, overwrite, bit, licensed, rowOn}
 use Rattle.rules.proofs.Lists.{keep-upto-hit, keep-upto-miss, matching-at, matching-from}
-use Rattle.typing.specs.Rows.{typeByte, noByte, joinedByte, Rows}
+use Rattle.typing.specs.Rows.{typeByte, noByte, copiedIf, joinedByte, Rows}
 use Rattle.typing.specs.Sends.{licensesFor, inhabited, Licensed, Sent}
 use Rattle.typing.proofs.Writing.{map-snoc, overwrite-twice}
-use Rattle.typing.proofs.Rows.{row-empty, row-joined}
+use Rattle.typing.proofs.Rows.{row-empty, row-joined, row-copied}
 
 -- a bit as it is asked
 pub bit-zero : (t : Bool) → bit t ≡ 0 → t ≡ false
@@ -155,12 +155,8 @@ module _ (M : Model) (rows : List ℕ) (f : ℕ) (start : List ℕ) where
       }
 
 -- the row that the call leaves, with a licence and without
-pub licensed-row : (M : Model) (t : Static) (row : List ℕ) → inhabited t ≡ true → overwrite rowBytes (typeByte M t) row ≡ rowOn (licensed t) M row
-unfolding inhabited licensed rowOn typeByte
-licensed-row M [] row e = absurd (false≢true e)
-licensed-row M (c ∷ t) row e = refl
-
-pub unlicensed-row : (M : Model) (t : Static) (row : List ℕ) → inhabited t ≡ false → row ≡ rowOn (licensed t) M row
-unfolding inhabited licensed rowOn
-unlicensed-row M [] row e = refl
-unlicensed-row M (c ∷ t) row e = absurd (false≢true (sym e))
+pub left-row : (M : Model) (t : Static) (r : Bool) (from before row : List ℕ) → r ≡ inhabited t → from ≡ overwrite rowBytes (typeByte M t) before
+    → copiedIf r from row ≡ rowOn (licensed t) M row
+unfolding inhabited licensed rowOn typeByte copiedIf
+left-row M [] r from before row e g = rw e
+left-row M (c ∷ t) r from before row e g = rw e (row-copied M (c ∷ t) from before row g)

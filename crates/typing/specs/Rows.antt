@@ -2,13 +2,13 @@
 -- Assumes nothing.
 use Prim.Native.Nat.{ℕ, _+_, _*_, _≤_, _<_}
 use mathlib.Core.Path.{_≡_}
-use mathlib.Core.Bool.{cond}
+use mathlib.Core.Bool.{Bool, true, false, cond}
 use mathlib.Core.List.{List, [], _∷_, map}
 use lib.ListN.{length, getD}
 use Rattle.rules.specs.Model.{Model}
 use Rattle.rules.specs.Subclass.{subclass}
 use Rattle.rules.specs.Types.{Static, inType}
-use Rattle.rules.specs.Calls.{rowBytes, bit}
+use Rattle.rules.specs.Calls.{rowBytes, overwrite, bit}
 
 -- byte k of the row of a type
 unfoldable pub typeByte : Model → Static → ℕ → ℕ
@@ -21,6 +21,11 @@ noByte k = 0
 -- byte k of a row as it stands
 unfoldable pub sameByte : List ℕ → ℕ → ℕ
 sameByte row k = getD row k 0
+
+-- a row over which another is written, if it is
+unfoldable pub copiedIf : Bool → List ℕ → List ℕ → List ℕ
+copiedIf true from row = overwrite rowBytes (sameByte from) row
+copiedIf false from row = row
 
 -- what a byte for class k becomes when class c's type is joined
 unfoldable pub joined : Model → ℕ → ℕ → ℕ → ℕ

@@ -17,6 +17,7 @@ use Rattle.typing.specs.declared.coverage.Coverage.the-variants.{Covered
 use Rattle.typing.specs.declared.coverage.Signatures.{Signatures}
 use Rattle.typing.specs.declared.coverage.Signatures.the-variants.{AllCovered, BrokenAt}
 use Rattle.typing.specs.Judged.{judgementOf}
+use Rattle.typing.specs.Needed.{Enough}
 
 -- k is a class to try at a place where the signature has class c
 abbrev pub tried : Model → ℕ → ℕ → Bool
@@ -30,7 +31,7 @@ above M place k m = subclass M k (getD (M .specialisers m) place 0)
 unfoldable pub searched : Model → ℕ → List ℕ → List ℕ → Option (List ℕ)
 searched M s filled rest = first (λ t. failing (judge M s (filled ++ t))) (tuples M rest)
 
--- The first places of a tuple of signature s, whose function f has n arguments, are filled; the list holds the methods that are left.
+-- The first places of a tuple of signature s, whose function f has n arguments, are filled; the list holds enough of the methods that are left.
 pub record Filling (M : Model) (s f n place : ℕ) (chosen list : List ℕ) (count : ℕ) : Type 0 where
   pub signature : s < M .signatures
   pub ofSignature : f ≡ M .sigFunction s
@@ -38,7 +39,7 @@ pub record Filling (M : Model) (s f n place : ℕ) (chosen list : List ℕ) (cou
   pub room : n ≤ length chosen
   pub classes : present M (take place chosen) ≡ true
   pub counted : count ≤ length list
-  pub methods : take count list ≡ applicableSoFar M f (take place chosen)
+  pub methods : Enough M place (applicableSoFar M f (take place chosen)) (take count list)
 
 -- What a search that leaves the tuple in `after` answers: no tuple is broken, or that one is, with its judgement.
 abbrev pub Outcome : Model → ℕ → ℕ → List ℕ → List ℕ → List ℕ → Coverage → Type 0

@@ -1,7 +1,9 @@
-// The search for a tuple that breaks the coverage rule: tuples are built place by place, and each place filled narrows the methods that can apply.
+// The search for a tuple that breaks the coverage rule: tuples are built place by place, and each place filled narrows the methods that can apply, and
+// drops those that another stands for.
 use crate::judge::Judgement;
 use crate::judge::fails;
 use crate::judge::judge_found;
+use crate::thin::thin;
 use dispatch::matrix::under;
 use dispatch::select::select;
 use layout::bundle::Bundle;
@@ -24,6 +26,7 @@ ghost use Rattle.layout.specs.Opened.{Opened};
 ghost use Rattle.dispatch.specs.Matrix.{Filled};
 ghost use Rattle.dispatch.specs.Listed.{Listed};
 ghost use Rattle.typing.specs.Judged.{judgementOf};
+ghost use Rattle.typing.specs.Needed.{Enough};
 ghost use Rattle.typing.specs.Searched.{tried, above, Filling, Outcome, Whole, Lowest};
 
 // The rule holds for every tuple, or fails for one.
@@ -99,6 +102,42 @@ fn narrow(
     kept
 }
 
+// Writes enough of the methods that are left with class k at the place into the next list, and says how many there are. At the last place none is
+// dropped: there the list serves one tuple only, and dropping would cost more than selecting from it.
+fn next_methods(
+    bytes: &[u8],
+    b: Bundle,
+    scratch: &[u8],
+    f: usize,
+    n: usize,
+    place: usize,
+    k: usize,
+    list: &[usize],
+    count: usize,
+    next: &mut [usize],
+) -> usize
+    requires { ⌜ Opened (now bytes) b ⌝ }
+    requires { ⌜ Filled (modelOf (now bytes)) (now scratch) ⌝ }
+    requires { ⌜ n ≡ (modelOf (now bytes)) .arity f ⌝ }
+    requires { ⌜ n ≤ places ⌝ }
+    requires { ⌜ place < n ⌝ }
+    requires { ⌜ k < b .classes ⌝ }
+    requires { ⌜ count ≤ length (now list) ⌝ }
+    requires { ⌜ Listed (modelOf (now bytes)) f (take count (now list)) ⌝ }
+    requires { ⌜ count ≤ maxMethods ⌝ }
+    requires { ⌜ count ≤ length (now next) ⌝ }
+    ensures { λ r. ⌜ r ≤ count ⌝ }
+    ensures { λ r. ⌜ length (now (next .exit)) ≡ length (now (next .entry)) ⌝ }
+    ensures { λ r. ⌜ Enough (modelOf (now (bytes .entry))) (place + 1) (keep (above (modelOf (now (bytes .entry))) place k) (take count (now (list .entry)))) (take r (now (next .exit))) ⌝ }
+{
+    if place + 1 == n {
+        return narrow(bytes, b, scratch, f, place, k, list, count, next);
+    }
+    let mut all = blank();
+    let kept = narrow(bytes, b, scratch, f, place, k, list, count, &mut all);
+    thin(bytes, b, scratch, f, n, place + 1, &all, kept, next)
+}
+
 // Whether class k is to be tried at a place where the signature has class c: concrete, and under it.
 fn is_tried(bytes: &[u8], b: Bundle, scratch: &[u8], c: usize, k: usize) -> bool
     requires { ⌜ Opened (now bytes) b ⌝ }
@@ -113,7 +152,7 @@ fn is_tried(bytes: &[u8], b: Bundle, scratch: &[u8], c: usize, k: usize) -> bool
     under(scratch, k, c)
 }
 
-// The judgement of a tuple with every place filled: the methods left are the applicable ones.
+// The judgement of a tuple with every place filled: the methods left are the applicable ones, or enough of them to select the same.
 fn judge_filled(
     bytes: &[u8],
     b: Bundle,
@@ -217,7 +256,7 @@ fn extend(
 {
     chosen[place] = k;
     let mut next = blank();
-    let kept = narrow(bytes, b, scratch, f, place, k, list, count, &mut next);
+    let kept = next_methods(bytes, b, scratch, f, n, place, k, list, count, &mut next);
     search(
         bytes,
         b,

@@ -5,3 +5,4 @@ pub mod judge;
 pub mod methods;
 pub mod row;
 pub mod send;
+pub mod thin;

@@ -21,7 +21,7 @@ ghost use Rattle.rules.specs.Types.{sendType};
 ghost use Rattle.rules.specs.Calls.{rowBytes, licensed, rowOn};
 ghost use Rattle.layout.specs.Opened.{Opened};
 ghost use Rattle.dispatch.specs.Matrix.{Filled};
-ghost use Rattle.typing.specs.Rows.{classTypes};
+ghost use Rattle.typing.specs.Rows.{copiedIf, classTypes};
 ghost use Rattle.typing.specs.Sends.{inhabited, Licensed, Sent};
 
 // Whether signature s is of function f, of n arguments, and licenses the send.
@@ -79,6 +79,18 @@ pub fn send_row(
     found
 }
 
+// Copies the row where one was found, and leaves the other as it is where none was.
+fn copy_if(found: bool, from: &[u8], row: &mut [u8])
+    requires { ⌜ rowBytes ≤ length (now from) ⌝ }
+    requires { ⌜ rowBytes ≤ length (now row) ⌝ }
+    ensures { λ _. ⌜ now (row .exit) ≡ copiedIf found (now (from .entry)) (now (row .entry)) ⌝ }
+{
+    if !found {
+        return;
+    }
+    copy(from, row);
+}
+
 // Writes the row of the type of a send of f with arguments of these classes, and says that it did: not where no signature licenses it.
 pub fn send_type(
     bytes: &[u8],
@@ -101,9 +113,7 @@ pub fn send_type(
     let mut rows = argument_rows();
     class_rows(bytes, b, scratch, n, args, &mut rows);
     let mut sent = one_row();
-    if send_row(bytes, b, scratch, &rows, f, &mut sent) {
-        copy(&sent, row);
-        return true;
-    }
-    false
+    let found = send_row(bytes, b, scratch, &rows, f, &mut sent);
+    copy_if(found, &sent, row);
+    found
 }

@@ -28,7 +28,7 @@ use Rattle.layout.proofs.field.sig_arg.Reads as sig-arg-reads
 use Rattle.typing.proofs.coverage.blank.Reads as blank-reads
 use Rattle.typing.proofs.coverage.is_tried.Reads as is-tried-reads
 use Rattle.typing.proofs.coverage.judge_filled.Reads as judge-filled-reads
-use Rattle.typing.proofs.coverage.narrow.Reads as narrow-reads
+use Rattle.typing.proofs.coverage.next_methods.Reads as next-methods-reads
 use Rattle.typing.proofs.judge.fails.Reads as fails-reads
 use Rattle.typing.proofs.coverage.+extend+search.{statement}
 use Rattle.typing.proofs.coverage.+extend+search.Tie.{close}
@@ -60,7 +60,7 @@ search-below t = and 4 search-kinds.ps (falls 4 search-kinds.ps _<_ μ-search t)
 
 -- what each takes of the functions that it calls
 abbrev extend-claims : ℕ → extend-lts.Claims
-extend-claims t = (blank-reads.Asked, blank-reads.Learnt, narrow-reads.Asked, narrow-reads.Learnt, search-below t, search′.Post)
+extend-claims t = (blank-reads.Asked, blank-reads.Learnt, next-methods-reads.Asked, next-methods-reads.Learnt, search-below t, search′.Post)
 
 abbrev search-claims : ℕ → search-lts.Claims
 search-claims t = (
@@ -87,19 +87,27 @@ module _ (t : ℕ) where
   extend-blank-requires : extend-lts.Need-blank-requires (extend-claims t) (extend-at t) extend.Post
   extend-blank-requires c κs = search needs
 
-  extend-slice-aggregate-narrow : extend-lts.Need-slice-aggregate-narrow (extend-claims t) (extend-at t) extend.Post
-  extend-slice-aggregate-narrow c = sym (c .before .blank .ensures)
+  extend-slice-aggregate-next-methods : extend-lts.Need-slice-aggregate-next-methods (extend-claims t) (extend-at t) extend.Post
+  extend-slice-aggregate-next-methods c = sym (c .before .blank .ensures)
 
-  extend-narrow-requires : extend-lts.Need-narrow-requires (extend-claims t) (extend-at t) extend.Post
-  extend-narrow-requires c κs =
+  extend-next-methods-requires : extend-lts.Need-next-methods-requires (extend-claims t) (extend-at t) extend.Post
+  extend-next-methods-requires c κs =
       let p = c .before .before .before .before .before .before .pre .1 in
       let rest = p .1 .1 in
       let g = rest .1 .1 in
       let few = filling-few (p .0) g in
       let limit = wellformed-of (p .0) .methods-limit in
       let counts = counts-of (p .0) in
-      let room = c .before .blank .ensures in
-      (p .0, (p .1 .0, (omega (arith, filling-places (p .0) g), (rest .1 .0, (g .counted, (filling-listed (p .0) g, omega arith))))))
+      let room = c .before .blank .ensures in (
+        p .0,
+        (
+          p .1 .0,
+          (
+            g .arguments,
+            (filling-places (p .0) g, (rest .0, (rest .1 .0, (g .counted, (filling-listed (p .0) g, (omega arith, omega arith)))))),
+          ),
+        ),
+      )
 
   extend-sub-search : extend-lts.Need-sub-search (extend-claims t) (extend-at t) extend.Post
   extend-sub-search c = omega arith
@@ -110,7 +118,7 @@ module _ (t : ℕ) where
   extend-slice-aggregate-search : extend-lts.Need-slice-aggregate-search (extend-claims t) (extend-at t) extend.Post
   extend-slice-aggregate-search c =
       let u = c .before .before .before in
-      sym (u .narrow .ensures .1 .0 ∙ u .before .before .blank .ensures)
+      sym (u .next-methods .ensures .1 .0 ∙ u .before .before .blank .ensures)
 
   extend-search-requires : extend-lts.Need-search-requires (extend-claims t) (extend-at t) extend.Post
   extend-search-requires c κs =
@@ -123,7 +131,7 @@ module _ (t : ℕ) where
       let few = filling-few (p .0) g in
       let limit = wellformed-of (p .0) .methods-limit in
       let counts = counts-of (p .0) in
-      let narrowed = u .narrow .ensures in
+      let narrowed = u .next-methods .ensures in
       let room = u .before .before .blank .ensures in
       let measure = s .pre .0 in
       let next : a .n - (a .n - a .place - 1) ≡ a .place + 1 = omega (arith, rest .0) in (
@@ -372,8 +380,8 @@ pub +extend+search-spec : {M : Type 1} → statement M
     (extend-mul-chosen t)
     (extend-slice-write-chosen t)
     (extend-blank-requires t)
-    (extend-slice-aggregate-narrow t)
-    (extend-narrow-requires t)
+    (extend-slice-aggregate-next-methods t)
+    (extend-next-methods-requires t)
     (extend-sub-search t)
     (extend-sub-search-2 t)
     (extend-slice-aggregate-search t)

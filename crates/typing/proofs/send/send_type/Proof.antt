@@ -1,14 +1,13 @@
 -- `typing::send::send_type` meets its contract: the rows hold the classes' types, and the send's row is copied where there is a licence.
 -- Assumes nothing.
 use native.Mathlib.Omega.{arith}
-use mathlib.Core.Path.{_≡_, sym, _∙_}
+use mathlib.Core.Path.{_≡_, _∙_}
 use mathlib.Core.Bool.{true}
 use lib.ListN.{take}
 use Rattle.rules.specs.Model.{modelOf, present}
 use Rattle.typing.specs.Rows.{Rows, classTypes}
-use Rattle.typing.proofs.Rows.{row-copied}
 use Rattle.typing.proofs.Classes.{class-types-length}
-use Rattle.typing.proofs.Sends.{licensed-row, unlicensed-row}
+use Rattle.typing.proofs.Sends.{left-row}
 use borrow.Author.Needs.{needs}
 use Rattle.typing.proofs.send.send_type.Statement.{statement}
 use Rattle.typing.proofs.send.send_type.Tie as tie
@@ -49,11 +48,11 @@ send-row-requires c κs =
     let long = c .before .before .«one-row» .ensures in
     (g .pre .0, (g .pre .1 .0, (g .pre .1 .1 .0, (omega arith, omega arith))))
 
-slice-aggregate-copy : tie.Need-slice-aggregate-copy
-slice-aggregate-copy c = search needs
+slice-aggregate-copy-if : tie.Need-slice-aggregate-copy-if
+slice-aggregate-copy-if c = search needs
 
-copy-requires : tie.Need-copy-requires
-copy-requires c κs = search needs
+copy-if-requires : tie.Need-copy-if-requires
+copy-if-requires c κs = search needs
 
 same-length : tie.Need-same-length
 same-length c = search needs
@@ -67,22 +66,13 @@ held c = let n = c .before .before .before .before .before .before .before .befo
 
 returns : tie.Need-returns
 returns c =
-    let a = c .before .before .before .before .before .before .before in
+    let a = c .before .before .before .before .before .before in
     let g = a .before .before .before .before .before .before .before .before .before .before .before .before .before in
     let M = modelOf (g .args .bytes .now) in
     let sent = a .«send-row» .ensures in
     let size = class-types-length (M .arity (g .args .f)) (g .args .args .now) (g .pre .1 .1 .1 .0) in
-    let some = sym (c .before .before .before .before .before .if1 .taken) ∙ sent .some _ (held a) size in
-    (some, c .before .before .copy .ensures ∙ row-copied M _ _ _ _ (sent .row _ (held a) size) ∙ licensed-row M _ _ (sym some))
-
-returns-2 : tie.Need-returns-2
-returns-2 c =
-    let a = c .before .before in
-    let g = a .before .before .before .before .before .before .before .before .before .before .before .before .before in
-    let M = modelOf (g .args .bytes .now) in
-    let size = class-types-length (M .arity (g .args .f)) (g .args .args .now) (g .pre .1 .1 .1 .0) in
-    let none = sym (c .if1 .left) ∙ a .«send-row» .ensures .some _ (held a) size in
-    (none, unlicensed-row M _ _ (sym none))
+    let some = sent .some _ (held a) size in
+    (some, c .before .before .«copy-if» .ensures ∙ left-row M _ _ _ _ _ some (sent .row _ (held a) size))
 
 pub send-type-spec : {M : Type 1} → statement M
 send-type-spec =
@@ -96,8 +86,7 @@ send-type-spec =
     slice-aggregate-send-row
     slice-aggregate-send-row-2
     send-row-requires
-    slice-aggregate-copy
-    copy-requires
+    slice-aggregate-copy-if
+    copy-if-requires
     same-length
-    returns
-    returns-2)
+    returns)
