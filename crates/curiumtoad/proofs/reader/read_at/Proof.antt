@@ -3,6 +3,7 @@
 -- Assumes nothing.
 use borrow.Author.Needs.{needs}
 use Prim.Native.Nat.{_*_, _+_}
+use native.Mathlib.Omega.{arith}
 use mathlib.Core.Path.{sym, ap, _∙_}
 use mathlib.Core.Option.{some}
 use Rattle.rules.specs.Bytes.{byte}
@@ -25,7 +26,8 @@ returns-2 c =
     let s = c .before .before .before .before in
     let code = s .args .code .now in
     let at = s .args .at in
-    cc (read-pair code at (search needs), unknown-pair (byte code (2 * at)) (byte code (2 * at + 1)) (rw (c .before .byte-at .ensures .0) at (c .if2 .taken)))
+    let operation = c .before .byte-at .ensures .0 in
+    cc (read-pair code at (search needs), unknown-pair (byte code (2 * at)) (byte code (2 * at + 1)) (omega (arith, c .if2 .taken)))
 
 mul-byte-at-2 : tie.Need-mul-byte-at-2
 mul-byte-at-2 c = search needs
@@ -50,7 +52,7 @@ returns-3 c =
     ap some (c .decoded .ensures ∙ (λ i. decode (operation i) (operand i)))
     ∙ sym
     (read-pair code at (search needs)
-    ∙ known-pair (byte code (2 * at)) (byte code (2 * at + 1)) (rw operation at (k .if2 .left)))
+    ∙ known-pair (byte code (2 * at)) (byte code (2 * at + 1)) (omega (arith, k .if2 .left)))
 
 pub read-at-spec : {M : Type 1} → statement M
 read-at-spec =
