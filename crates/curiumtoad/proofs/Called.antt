@@ -1,7 +1,7 @@
 -- What a call comes to where its bundle opens, and where it does not.
 -- Assumes nothing.
 use Prim.Native.Nat.{ℕ, _≤_, _<_}
-use mathlib.Core.Path.{_≡_, refl, sym, _∙_}
+use mathlib.Core.Path.{_≡_, refl, sym, ap, _∙_}
 use mathlib.Core.Bool.{Bool, true, false, _&&_, and-false}
 use mathlib.Core.Logic.{_⊎_, inl, inr}
 use mathlib.Core.List.{List, [], _∷_}
@@ -29,22 +29,23 @@ use Rattle.curiumtoad.specs.Prepared.{Prepares, refusalSaid}
 use Rattle.curiumtoad.specs.Said.{blank}
 use Rattle.curiumtoad.specs.Refusal.{numberOf, valuesOf, recordOf}
 
+-- a layout finding is a number with its values
+pub layout-refuses : (f : LayoutFinding) → saidOf f ≡ refuses (numberOf (saidOf f)) (valuesOf (saidOf f))
+layout-refuses finding.Size = refl
+layout-refuses finding.Directory = refl
+layout-refuses finding.Limits = refl
+layout-refuses (finding.Class k) = refl
+layout-refuses (finding.Function k) = refl
+layout-refuses (finding.Signature k) = refl
+layout-refuses (finding.Method k) = refl
+layout-refuses (finding.Twin k) = refl
+layout-refuses (finding.Code k) = refl
+
 module _ {A : Type 0} (b : List ℕ) (call : Model → Answer A) where
   -- a layout refusal is the call's answer
   pub not-opened : (f : LayoutFinding) → Opens b (answer.Refused f) → whenOpen b call ≡ refuses (numberOf (saidOf f)) (valuesOf (saidOf f))
   unfolding whenOpen onOpening
-  not-opened f o = rw (sym (o .answer)) (carried f)
-    where
-      carried : (f : LayoutFinding) → onOpening (saidOf f) (modelOf b) call ≡ refuses (numberOf (saidOf f)) (valuesOf (saidOf f))
-      carried finding.Size = refl
-      carried finding.Directory = refl
-      carried finding.Limits = refl
-      carried (finding.Class k) = refl
-      carried (finding.Function k) = refl
-      carried (finding.Signature k) = refl
-      carried (finding.Method k) = refl
-      carried (finding.Twin k) = refl
-      carried (finding.Code k) = refl
+  not-opened f o = ap (λ (a : Answer (List ℕ)). onOpening a (modelOf b) call) (sym (o .answer) ∙ layout-refuses f)
 
   pub opened-call : (counts : List ℕ) → opening b ≡ gives counts → whenOpen b call ≡ call (modelOf b)
   unfolding whenOpen onOpening
@@ -99,18 +100,7 @@ module _ (b : List ℕ) (m : ℕ) where
 -- The scratch: as it was where the bundle does not open or the scratch is short, else the matrix.
 pub scratch-refused : (b scratch : List ℕ) (f : LayoutFinding) → saidOf f ≡ opening b → scratchAfter b scratch ≡ scratch
 unfolding scratchAfter scratchOn
-scratch-refused b scratch f o = rw (sym o) (kept f)
-  where
-    kept : (f : LayoutFinding) → scratchOn (saidOf f) (modelOf b) scratch ≡ scratch
-    kept finding.Size = refl
-    kept finding.Directory = refl
-    kept finding.Limits = refl
-    kept (finding.Class k) = refl
-    kept (finding.Function k) = refl
-    kept (finding.Signature k) = refl
-    kept (finding.Method k) = refl
-    kept (finding.Twin k) = refl
-    kept (finding.Code k) = refl
+scratch-refused b scratch f o = ap (λ (a : Answer (List ℕ)). scratchOn a (modelOf b) scratch) (sym o ∙ layout-refuses f)
 
 pub scratch-short : (b scratch counts : List ℕ) → opening b ≡ gives counts → length scratch < scratchBytes → scratchAfter b scratch ≡ scratch
 unfolding scratchAfter scratchOn

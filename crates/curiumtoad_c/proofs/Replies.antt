@@ -4,7 +4,6 @@ use Prim.Native.Nat.{ℕ}
 use mathlib.Core.Path.{_≡_, refl, sym, ap, _∙_}
 use mathlib.Core.List.{List, [], _∷_}
 use lib.ListN.{set}
-use Rattle.rules.specs.Layout.{refuses}
 use Rattle.layout.specs.declared.finding.LayoutFinding.{LayoutFinding}
 use Rattle.layout.specs.declared.finding.LayoutFinding.the-variants as finding
 use Rattle.layout.specs.Opening.{saidOf}
@@ -15,6 +14,7 @@ use Rattle.curiumtoad.specs.declared.refusal.Refusal.{Refusal}
 use Rattle.curiumtoad.specs.declared.refusal.Refusal.the-variants as refusal
 use Rattle.curiumtoad.specs.Refusal.{numberOf, valuesOf, recordOf}
 use Rattle.curiumtoad.specs.Prepared.{refusalSaid}
+use Rattle.curiumtoad.proofs.Called.{layout-refuses}
 use Rattle.curiumtoad_c.specs.declared.reply.Reply.{Reply}
 use Rattle.curiumtoad_c.specs.Exported.{replyValues, filled, exportedNumber, exportedValues, nothing, counts, endingValues, outcomeValues, runNumber}
 
@@ -38,17 +38,6 @@ layout-values (finding.Signature k) = refl
 layout-values (finding.Method k) = refl
 layout-values (finding.Twin k) = refl
 layout-values (finding.Code k) = refl
-
-pub layout-refuses : (f : LayoutFinding) → saidOf f ≡ refuses (numberOf (saidOf f)) (valuesOf (saidOf f))
-layout-refuses finding.Size = refl
-layout-refuses finding.Directory = refl
-layout-refuses finding.Limits = refl
-layout-refuses (finding.Class k) = refl
-layout-refuses (finding.Function k) = refl
-layout-refuses (finding.Signature k) = refl
-layout-refuses (finding.Method k) = refl
-layout-refuses (finding.Twin k) = refl
-layout-refuses (finding.Code k) = refl
 
 -- what a finding says as an answer of opening, and as its number and values
 pub layout-said : {x : Reply} (f : LayoutFinding) → Says x (numberOf (saidOf f)) (filled 8 (valuesOf (saidOf f)))

@@ -16,16 +16,15 @@ use Rattle.rules.proofs.Coverage.{broken-signature, first-names}
 use Rattle.layout.specs.Opening.{saidOf}
 use Rattle.layout.specs.declared.bundle.Bundle.{Bundle}
 use Rattle.layout.specs.declared.finding.LayoutFinding as layout-type
-use Rattle.layout.specs.declared.finding.LayoutFinding.the-variants as layout
 use Rattle.layout.proofs.Opened.{wellformed-of, counts-of, opened-of}
 use Rattle.curiumtoad.specs.declared.witness.CoverageFinding as coverage-type
 use Rattle.curiumtoad.specs.declared.witness.CoverageFinding.the-variants as coverage
 use Rattle.curiumtoad.specs.declared.check.Finding.the-variants as finding
 use Rattle.curiumtoad.specs.declared.check.Verdict as verdict-type
 use Rattle.curiumtoad.specs.declared.check.Verdict.the-variants as verdict
-use Rattle.curiumtoad.specs.Refusal.{numberOf, valuesOf}
 use Rattle.curiumtoad.specs.Said.{coverageSaid, verdictSaid}
 use Rattle.curiumtoad.specs.Checked.{Checks}
+use Rattle.curiumtoad.proofs.Called.{layout-refuses}
 use Rattle.text.specs.declared.listing.ListingAnswer as listing-type
 use Rattle.text.specs.declared.listing.ListingAnswer.the-variants as listing
 use Rattle.text.specs.Text.{countsLine, verdictLine, listingOn, listingNaming}
@@ -79,18 +78,6 @@ module _ (M : Model) where
   verdict-second w args (some s) e h =
       subst (λ (f : ℕ). f < M .functions) (sym (refusal-second s args (judge M s args) h)) (w .sig-function s (broken-signature M s e .0))
 
--- a layout refusal is a number with its values
-refused-said : (f : layout-type.LayoutFinding) → refuses (numberOf (saidOf f)) (valuesOf (saidOf f)) ≡ saidOf f
-refused-said layout.Size = refl
-refused-said layout.Directory = refl
-refused-said layout.Limits = refl
-refused-said (layout.Class k) = refl
-refused-said (layout.Function k) = refl
-refused-said (layout.Signature k) = refl
-refused-said (layout.Method k) = refl
-refused-said (layout.Twin k) = refl
-refused-said (layout.Code k) = refl
-
 module _ {b : List ℕ} {t : Bundle} (o : OpenedAs b t) where
   -- the check of a bundle that opens, with scratch enough, is the verdict
   checked : (scratch : ℕ) (args : List ℕ) → scratch ≡ scratchBytes → checkCallNaming b scratch args ≡ verdictNaming (modelOf b) args
@@ -137,7 +124,7 @@ composed-refused b f old new r e room a =
       args = args;
       names = first-names M;
       fits = omega (arith, a .bound, a .same, room);
-      written = a .text ∙ ap (λ (x : Answer (List ℕ)). listingOn x M args) (refused-said f ∙ e);
+      written = a .text ∙ ap (λ (x : Answer (List ℕ)). listingOn x M args) (sym (layout-refuses f) ∙ e);
     }
 
 -- the text has as many bytes as were composed

@@ -2,9 +2,8 @@
 -- Assumes nothing.
 use Prim.Native.Nat.{ℕ, _≤_, _<_}
 use mathlib.Core.Path.{_≡_}
-use mathlib.Core.List.{List, [], _∷_, _++_}
+use mathlib.Core.List.{List, _++_}
 use lib.ListN.{length, take, drop}
-use Rattle.rules.specs.Layout.{gives, refuses}
 use Rattle.rules.specs.Model.{Model, modelOf}
 use Rattle.rules.specs.Coverage.{NamesBroken}
 use Rattle.layout.specs.Opening.{saidOf, Opens}
@@ -21,7 +20,6 @@ use Rattle.curiumtoad.specs.Refusal.{numberOf, valuesOf}
 use Rattle.text.specs.declared.listing.ListingAnswer as listing-type
 use Rattle.text.specs.declared.listing.ListingAnswer.the-variants as listing
 use Rattle.text.specs.Text.{refusedLine, listingNaming}
-use Rattle.text.specs.Appended.{Appended}
 
 -- the bundle opens with these tables
 abbrev pub OpenedAs : List ℕ → Bundle → Type 0

@@ -16,7 +16,6 @@ ghost use mathlib.Core.Path.{_≡_};
 ghost use mathlib.Core.List.{[], _∷_, _++_};
 ghost use Prim.Native.Nat.{_+_, _<_, _≤_};
 ghost use lib.ListN.{length, take};
-ghost use Rattle.rules.specs.Layout.{refuses};
 ghost use Rattle.rules.specs.Model.{Model, modelOf};
 ghost use Rattle.layout.specs.Opening.{saidOf};
 ghost use Rattle.layout.specs.Opened.{Opened};
