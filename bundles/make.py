@@ -55,6 +55,9 @@ ABSTRACT, CONCRETE = 0, 1
 CHART = [(ABSTRACT, []), (CONCRETE, [0]), (CONCRETE, [1]), (CONCRETE, [0]), (CONCRETE, [3]), (ABSTRACT, [0]), (CONCRETE, [5]), (CONCRETE, [5])]
 CHART_METHODS = [(0, args, args, result, [(NEW, result)]) for args, result in [([1, 4], 6), ([2, 3], 7), ([1, 3], 6), ([2, 4], 7)]]
 
+ALONE = [(CONCRETE, [])]
+CLASS = bytes([CONCRETE, 0, 0, 0, 0, 0])
+
 # The samples that the worked cases and the test programs use.
 SAMPLES = {
     "chart-3": bundle(CHART, [2], [(0, [1, 3], 5)], CHART_METHODS[:3]),
@@ -81,34 +84,32 @@ SAMPLES = {
         [(0, [], [], 0, [(NEW, 0), (SEND, 1)]), (1, [1], [1], 0, [(NEW, 0)])]),
     # The body's value need not be under the method's result class: 17.
     "loose-result": bundle([(CONCRETE, []), (CONCRETE, [0])], [0], [(0, [], 0)], [(0, [], [], 1, [(NEW, 0)])]),
-}
-
-
-ALONE = [(CONCRETE, [])]
-CLASS = bytes([CONCRETE, 0, 0, 0, 0, 0])
-
-# One for each number that those above leave out, and for the sizes that document 01 names.
-FURTHER = {
-    "128-classes": bundle(ALONE + [(CONCRETE, [0])] * 127),
+    # One for each number of opening, and for 10.
     "23-bytes": bundle([])[:23],
     # The byte after the class belongs to no section.
     "directory-gap": struct.pack("<12H", 24, 6, *[31, 0] * 5) + CLASS + b"\0",
-    "part-of-a-class": joined(CLASS + b"\0", b"", b"", b"", b"", b""),
-    "code-without-methods": joined(CLASS, b"", b"", b"", b"", bytes([NEW, 0])),
     "empty-sections": bundle([]),
-    "129-classes": bundle(ALONE + [(CONCRETE, [0])] * 128),
     "own-parent": bundle(ALONE + [(CONCRETE, [1])]),
-    "two-roots": bundle(ALONE + [(CONCRETE, [])]),
-    "leftover-parent": joined(CLASS + bytes([CONCRETE, 0, 0, 0, 1, 0]), bytes([0, 0]), b"", b"", b"", b""),
     "four-arguments": bundle(ALONE, [3, 4]),
     "absent-result": bundle(ALONE, [0], [(0, [], 1)]),
-    "unused-place-filled": bundle(ALONE + [(CONCRETE, [0])], [1], [(0, [0, 1], 0)], [(0, [0], [0], 0, [(ARG, 0)])]),
     "empty-body": bundle(ALONE, [0], [(0, [], 0)], [(0, [], [], 0, [])]),
-    "absent-specialiser": bundle(ALONE, [1], [], [(0, [1], [0], 0, [(NEW, 0)])]),
     "twin-methods": bundle(ALONE, [1], [], [(0, [0], [0], 0, [(ARG, 0)]), (0, [0], [0], 0, [(NEW, 0)])]),
     "unknown-operation": bundle(ALONE, [0], [(0, [], 0)], [(0, [], [], 0, [(3, 0)])]),
-    "absent-argument": bundle(ALONE, [1], [(0, [0], 0)], [(0, [0], [0], 0, [(ARG, 1)])]),
     "no-method": bundle(ALONE, [0], [(0, [], 0)]),
+}
+
+
+# Further ways to break a rule, and the most classes that there may be.
+FURTHER = {
+    "128-classes": bundle(ALONE + [(CONCRETE, [0])] * 127),
+    "part-of-a-class": joined(CLASS + b"\0", b"", b"", b"", b"", b""),
+    "code-without-methods": joined(CLASS, b"", b"", b"", b"", bytes([NEW, 0])),
+    "129-classes": bundle(ALONE + [(CONCRETE, [0])] * 128),
+    "two-roots": bundle(ALONE + [(CONCRETE, [])]),
+    "leftover-parent": joined(CLASS + bytes([CONCRETE, 0, 0, 0, 1, 0]), bytes([0, 0]), b"", b"", b"", b""),
+    "unused-place-filled": bundle(ALONE + [(CONCRETE, [0])], [1], [(0, [0, 1], 0)], [(0, [0], [0], 0, [(ARG, 0)])]),
+    "absent-specialiser": bundle(ALONE, [1], [], [(0, [1], [0], 0, [(NEW, 0)])]),
+    "absent-argument": bundle(ALONE, [1], [(0, [0], 0)], [(0, [0], [0], 0, [(ARG, 1)])]),
     "uncovered-class": bundle(
         [(ABSTRACT, []), (CONCRETE, [0]), (CONCRETE, [0])], [1], [(0, [0], 0)], [(0, [1], [1], 0, [(ARG, 0)])]),
     # The signature's classes have no class under them, so that one send alone is covered.
@@ -230,7 +231,8 @@ def lists():
     text = "-- The sample bundles that the worked cases use, byte by byte. Made by bundles/make.py, with the files of that folder.\n"
     text += "-- Assumes nothing.\nuse Prim.Native.Nat.{ℕ}\nuse mathlib.Core.List.{List, [], _∷_}\n"
     for name, content in SAMPLES.items():
-        identifier = "".join(word.capitalize() if at else word for at, word in enumerate(name.split("-")))
+        words = name.replace("23", "twenty-three").split("-")
+        identifier = "".join(word.capitalize() if at else word for at, word in enumerate(words))
         text += f"\nunfoldable pub {identifier} : List ℕ\n{identifier} =\n"
         rows = [content[at:at + 16] for at in range(0, len(content), 16)]
         text += "\n".join("    " + " ∷ ".join(str(x) for x in row) + " ∷" for row in rows) + " []\n"

@@ -36,7 +36,7 @@ use Rattle.curiumtoad.specs.declared.run_accepted.AcceptedRun.the-varian
 use Rattle.curiumtoad.specs.Said.{verdictSaid, runSaid}
 use Rattle.curiumtoad.specs.Checked.{Checks}
 use Rattle.curiumtoad.specs.Alike.{CoveredOpening, SoundAnswer, JudgedAlike}
-use Rattle.curiumtoad.specs.Accepted.{coversSend, EndingSound, Ends, SoundEnd, Accepts}
+use Rattle.curiumtoad.specs.Accepted.{coversSend, Unstopped, Ends, SoundEnd, Accepts}
 use Rattle.curiumtoad.proofs.Called.{scratch-filled}
 use Rattle.curiumtoad.proofs.Judging.{Given, given}
 
@@ -112,24 +112,28 @@ not-covered M f args e s c =
     ∙ any-from (λ s. eqb (M .sigFunction s) f && covers M s args) (upto (M .signatures)) (below-upto (M .signatures) s (c .present))
     (and-both (eqb (M .sigFunction s) f) (covers M s args) (eq-eqb (M .sigFunction s) f (c .ofFunction)) (c .covered)))
 
-ending-sound : (M : Model) (f : ℕ) (args : List ℕ) (x : Ending) → SoundEnding M f args (endingOf x) → EndingSound x
+unstopped : (M : Model) (f : ℕ) (args : List ℕ) (x : Ending) → SoundEnding M f args (endingOf x) → Unstopped x
 unfolding endingOf
-ending-sound M f args (ending.Value c) s = tt
-ending-sound M f args ending.Spent s = tt
-ending-sound M f args ending.Deep s = tt
-ending-sound M f args (ending.Missing g x y z) s = s
-ending-sound M f args (ending.Ambiguous g x y z m n) s = s
-ending-sound M f args (ending.Declared g x y z m) s = s
-ending-sound M f args (ending.Values m at) s = s
-ending-sound M f args (ending.Abstract m at) s = s
+unstopped M f args (ending.Value c) s = tt
+unstopped M f args ending.Spent s = tt
+unstopped M f args ending.Deep s = tt
+unstopped M f args (ending.Missing g x y z) s = s
+unstopped M f args (ending.Ambiguous g x y z m n) s = s
+unstopped M f args (ending.Declared g x y z m) s = s
+unstopped M f args (ending.Values m at) s = s
+unstopped M f args (ending.Abstract m at) s = s
 
 -- the outcome that is answered is that of a sound run
-pub outcome-sound : (M : Model) (f : ℕ) (tuple : List ℕ) (count : ℕ) (o : Outcome) → SoundAnswer M f tuple count (gives (outcomeOf o)) → EndingSound (o .ending)
+answer-ending : (M : Model) (f : ℕ) (tuple : List ℕ) (count : ℕ) (o : rules.Outcome) → SoundAnswer M f tuple count (gives o)
+    → SoundEnding M f (used M f tuple) (o .ending)
+answer-ending M f tuple count o s =
+    let whole : o ≡ (rules.run M f (used M f tuple) count) .outcome = cc (s .answer) in
+    let same : o .ending ≡ (rules.run M f (used M f tuple) count) .outcome .ending = ap (λ (x : rules.Outcome). x .ending) whole in
+    rw same (s .whole .ending)
+
+pub outcome-unstopped : (M : Model) (f : ℕ) (tuple : List ℕ) (count : ℕ) (o : Outcome) → SoundAnswer M f tuple count (gives (outcomeOf o)) → Unstopped (o .ending)
 unfolding outcomeOf
-outcome-sound M f tuple count o s =
-    let whole : outcomeOf o ≡ (rules.run M f (used M f tuple) count) .outcome = cc (s .answer) in
-    let same : endingOf (o .ending) ≡ (rules.run M f (used M f tuple) count) .outcome .ending = ap (λ (x : rules.Outcome). x .ending) whole in
-    ending-sound M f (used M f tuple) (o .ending) (rw same (s .whole .ending))
+outcome-unstopped M f tuple count o s = unstopped M f (used M f tuple) (o .ending) (answer-ending M f tuple count (outcomeOf o) s)
 
 -- what the matches on the answers of the check and of the run give
 module _ (b : List ℕ) (n f : ℕ) (tuple : List ℕ) (count : ℕ) where
@@ -144,15 +148,18 @@ module _ (b : List ℕ) (n f : ℕ) (tuple : List ℕ) (count : ℕ) where
   not-accepted found {o} e c q = (rw e at c, (o, q))
 
   pub sound-end : {v : Verdict} {a : RunAnswer} (o : Outcome) → v ≡ verdict.Accepted → a ≡ run.Ended o → runCall b n f tuple count ≡ gives (outcomeOf o)
-      → JudgedAlike b f tuple count v a → any (coversSend (modelOf b) f (used (modelOf b) f tuple)) (upto (modelOf b .signatures)) ≡ true → EndingSound (o .ending)
-  sound-end o e q ended alike c =
-      outcome-sound (modelOf b) f tuple count o (rw q at (alike (ap verdictSaid e) (covered-opening b n f tuple count ended c)))
+      → JudgedAlike b f tuple count v a → any (coversSend (modelOf b) f (used (modelOf b) f tuple)) (upto (modelOf b .signatures)) ≡ true
+      → SoundAnswer (modelOf b) f tuple count (gives (outcomeOf o))
+  sound-end o e q ended alike c = rw q at (alike (ap verdictSaid e) (covered-opening b n f tuple count ended c))
 
 pub accepts-end : (b : List ℕ) (n f : ℕ) (tuple : List ℕ) (count : ℕ) (r : AcceptedRun) (o : rules.Outcome) → Ends r o → Checks b n verdict.Accepted
-    → CoveredOpening (modelOf b) f tuple → runCall b n f tuple count ≡ gives o → Accepts b n f tuple count r
-accepts-end b n f tuple count (accepted.Value c k) o e a v q = record { accepted = a; covered = v; ended = q ∙ ap (λ (x : rules.Outcome). gives x) e }
-accepts-end b n f tuple count (accepted.Spent k) o e a v q = record { accepted = a; covered = v; ended = q ∙ ap (λ (x : rules.Outcome). gives x) e }
-accepts-end b n f tuple count (accepted.Deep k) o e a v q = record { accepted = a; covered = v; ended = q ∙ ap (λ (x : rules.Outcome). gives x) e }
-accepts-end b n f tuple count (accepted.NotAccepted found) o e a v q = absurd e
-accepts-end b n f tuple count accepted.NotCovered o e a v q = absurd e
-accepts-end b n f tuple count (accepted.Refused r) o e a v q = absurd e
+    → CoveredOpening (modelOf b) f tuple → runCall b n f tuple count ≡ gives o → SoundAnswer (modelOf b) f tuple count (gives o) → Accepts b n f tuple count r
+accepts-end b n f tuple count r o e a v q s = go r o e (record { accepted = a; covered = v; ended = q; sound = s; ending = answer-ending (modelOf b) f tuple count o s })
+  where
+    go : (r : AcceptedRun) (o : rules.Outcome) → Ends r o → SoundEnd b n f tuple count o → Accepts b n f tuple count r
+    go (accepted.Value c k) o e s = rw e at s
+    go (accepted.Spent k) o e s = rw e at s
+    go (accepted.Deep k) o e s = rw e at s
+    go (accepted.NotAccepted found) o e s = absurd e
+    go accepted.NotCovered o e s = absurd e
+    go (accepted.Refused r) o e s = absurd e

@@ -1,4 +1,4 @@
--- Demand 3 about the answers of the two calls, from the theorem over the definitions and the contracts of the two.
+-- Soundness about the answers of two calls, from the theorem over the definitions and the contracts of the two.
 -- Assumes nothing.
 use Prim.Native.Nat.{ℕ, _≤_}
 use mathlib.Core.Path.{_≡_, refl, sym, ap, _∙_}
@@ -18,12 +18,12 @@ use Rattle.rules.proofs.Sound.{demand-3}
 use Rattle.rules.proofs.Overwrite.{overwrite-length}
 use Rattle.typing.proofs.Writing.{overwrite-twice}
 use Rattle.rules.proofs.Lists.{test, and-both}
-use borrow.Author.Tests.{leb-true}
+use borrow.Author.Tests.{leb-true, le-leb}
 use Rattle.curiumtoad.specs.declared.check.Verdict.{Verdict}
 use Rattle.curiumtoad.specs.declared.run.RunAnswer.{RunAnswer}
 use Rattle.curiumtoad.specs.Said.{verdictSaid, runSaid}
 use Rattle.curiumtoad.specs.Checked.{Checks}
-use Rattle.curiumtoad.specs.Alike.{CoveredOpening, SoundAnswer, JudgedAlike}
+use Rattle.curiumtoad.specs.Alike.{CoveredOpening, SoundAnswer, JudgedAlike, CallsJudgeAlike}
 
 -- a call over scratch that gives something had an opened bundle and scratch enough
 pub record Given {A : Type 0} (b : List ℕ) (scratch : ℕ) (call : Model → Answer A) (x : A) : Type 0 where
@@ -54,17 +54,25 @@ first-accepted : (M : Model) → Acceptable M → verdict M ≡ gives tt
 unfolding verdict
 first-accepted M a = acceptable-accepted M (firstBroken M (brokenSignature M)) a
 
-pub judged-alike : (b : List ℕ) (scratch f : ℕ) (tuple : List ℕ) (count : ℕ) (v : Verdict) (r : RunAnswer)
-    → Checks b scratch v → runSaid r ≡ runCall b scratch f tuple count → JudgedAlike b f tuple count v r
+-- any two calls, each with its own scratch
+pub calls-judge-alike : CallsJudgeAlike
 unfolding checkCallNaming
-judged-alike b scratch f tuple count v r c q e w =
-    let g = given b scratch (λ M. verdictNaming M (c .args)) tt (sym (c .verdict) ∙ e) in
+calls-judge-alike b n v c k f tuple count r q long e w =
+    let g = given b n (λ M. verdictNaming M (c .args)) tt (sym (c .verdict) ∙ e) in
     let acceptable = accepted-acceptable (modelOf b) (c .args) (c .names) (g .gave) in
     record {
       whole =
           demand-3 b (g .counts) (g .opens) (first-accepted (modelOf b) acceptable) f (used (modelOf b) f tuple) (w .signature) (w .covering) (w .concrete) count;
-      answer = q ∙ run-answer b scratch f tuple count (g .opens) (g .enough) w;
+      answer = q ∙ run-answer b k f tuple count (g .opens) (le-leb scratchBytes k long) w;
     }
+
+-- two calls with scratches of one length: that it is enough follows from the acceptance
+pub judged-alike : (b : List ℕ) (n f : ℕ) (tuple : List ℕ) (count : ℕ) (v : Verdict) (r : RunAnswer)
+    → Checks b n v → runSaid r ≡ runCall b n f tuple count → JudgedAlike b f tuple count v r
+unfolding checkCallNaming
+judged-alike b n f tuple count v r c q e =
+    let g = given b n (λ M. verdictNaming M (c .args)) tt (sym (c .verdict) ∙ e) in
+    calls-judge-alike b n v c n f tuple count r q (leb-true scratchBytes n (g .enough)) e
 
 -- The second call finds the scratch of the first: as long, and filled the same.
 pub scratch-length : (b scratch : List ℕ) → length (scratchAfter b scratch) ≡ length scratch

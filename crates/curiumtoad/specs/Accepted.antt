@@ -10,10 +10,9 @@ use Rattle.rules.specs.Model.{Model, modelOf}
 use Rattle.rules.specs.Coverage.{covers}
 use Rattle.rules.specs.Machine as rules
 use Rattle.rules.specs.Calls.{used, runCall}
-use Rattle.rules.specs.Sound.{Covering}
+use Rattle.rules.specs.Sound.{Covering, SoundEnding}
 use Rattle.machine.specs.declared.ending.Ending.the-variants as ending
 use Rattle.machine.specs.declared.ending.Ending as ending-type
-use Rattle.machine.specs.declared.ending.Outcome.{Outcome}
 use Rattle.curiumtoad.specs.declared.refusal.Refusal.{Refusal}
 use Rattle.curiumtoad.specs.declared.check.Verdict.the-variants as verdict
 use Rattle.curiumtoad.specs.declared.run.RunAnswer as run-type
@@ -22,25 +21,22 @@ use Rattle.curiumtoad.specs.declared.run_accepted.AcceptedRun as accepte
 use Rattle.curiumtoad.specs.declared.run_accepted.AcceptedRun.the-variants.{Value, Spent, Deep, NotAccepted, NotCovered, Refused}
 use Rattle.curiumtoad.specs.Prepared.{refusalSaid}
 use Rattle.curiumtoad.specs.Checked.{Checks}
-use Rattle.curiumtoad.specs.Alike.{CoveredOpening}
+use Rattle.curiumtoad.specs.Alike.{CoveredOpening, SoundAnswer}
 
 -- signature s is one of function f and covers the arguments
 unfoldable pub coversSend : Model → ℕ → List ℕ → ℕ → Bool
 coversSend M f args s = eqb (M .sigFunction s) f && covers M s args
 
--- Spent, Deep or a value
-abbrev pub EndingSound : ending-type.Ending → Type 0
-EndingSound (ending.Value c) = Unit {0}
-EndingSound ending.Spent = Unit {0}
-EndingSound ending.Deep = Unit {0}
-EndingSound (ending.Missing f x y z) = ⊥
-EndingSound (ending.Ambiguous f x y z m n) = ⊥
-EndingSound (ending.Declared f x y z m) = ⊥
-EndingSound (ending.Values m at) = ⊥
-EndingSound (ending.Abstract m at) = ⊥
-
-abbrev pub EndsSound : Outcome → Type 0
-EndsSound o = EndingSound (o .ending)
+-- a run that no number stopped: Spent, Deep or a value
+abbrev pub Unstopped : ending-type.Ending → Type 0
+Unstopped (ending.Value c) = Unit {0}
+Unstopped ending.Spent = Unit {0}
+Unstopped ending.Deep = Unit {0}
+Unstopped (ending.Missing f x y z) = ⊥
+Unstopped (ending.Ambiguous f x y z m n) = ⊥
+Unstopped (ending.Declared f x y z m) = ⊥
+Unstopped (ending.Values m at) = ⊥
+Unstopped (ending.Abstract m at) = ⊥
 
 -- the answer is this outcome
 abbrev pub Ends : accepted-type.AcceptedRun → rules.Outcome → Type 0
@@ -59,11 +55,14 @@ Unended (run.Refused r) = Unit {0}
 abbrev pub refusedAs : Refusal → run-type.RunAnswer
 refusedAs r = run.Refused r
 
--- The check accepts and some signature covers the opening send, and the run ends so.
+-- The check accepts, some signature covers the opening send, the run ends so, and it is sound from its opening send to this end: a value is a concrete class
+-- under the result class of every signature that covers the opening send.
 pub record SoundEnd (b : List ℕ) (scratch f : ℕ) (tuple : List ℕ) (count : ℕ) (o : rules.Outcome) : Type 0 where
   pub accepted : Checks b scratch verdict.Accepted
   pub covered : CoveredOpening (modelOf b) f tuple
   pub ended : runCall b scratch f tuple count ≡ gives o
+  pub sound : SoundAnswer (modelOf b) f tuple count (gives o)
+  pub ending : SoundEnding (modelOf b) f (used (modelOf b) f tuple) (o .ending)
 
 abbrev pub Accepts : List ℕ → ℕ → ℕ → List ℕ → ℕ → accepted-type.AcceptedRun → Type 0
 Accepts b scratch f tuple count (Value c k) = SoundEnd b scratch f tuple count (record { ending = rules.value c; steps = k })

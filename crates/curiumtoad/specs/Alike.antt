@@ -1,6 +1,6 @@
--- Demand 3 about the answers of the two calls: "The checker that accepted a bundle and the stepper that runs it judge every send alike".
+-- Soundness about the answers of two calls: a check that accepted a bundle, and a run of the same bundle, judge every send alike.
 -- Assumes nothing.
-use Prim.Native.Nat.{ℕ}
+use Prim.Native.Nat.{ℕ, _≤_}
 use mathlib.Core.Path.{_≡_}
 use mathlib.Core.Bool.{true}
 use mathlib.Core.List.{List}
@@ -9,11 +9,12 @@ use Rattle.rules.specs.Layout.{Answer, gives}
 use Rattle.rules.specs.Model.{Model, modelOf}
 use Rattle.rules.specs.Coverage.{concreteClass}
 use Rattle.rules.specs.Machine.{Outcome, run}
-use Rattle.rules.specs.Calls.{sendRule, used}
+use Rattle.rules.specs.Calls.{scratchBytes, sendRule, used, runCall}
 use Rattle.rules.specs.Sound.{Covering, SoundRun}
 use Rattle.curiumtoad.specs.declared.check.Verdict as verdict-type
 use Rattle.curiumtoad.specs.declared.run.RunAnswer as run-type
 use Rattle.curiumtoad.specs.Said.{verdictSaid, runSaid}
+use Rattle.curiumtoad.specs.Checked.{Checks}
 
 -- An opening send that some signature of its function covers, with concrete classes and 0 at unused places.
 pub record CoveredOpening (M : Model) (f : ℕ) (tuple : List ℕ) : Type 0 where
@@ -29,7 +30,18 @@ pub record SoundAnswer (M : Model) (f : ℕ) (tuple : List ℕ) (count : ℕ) (r
   pub whole : SoundRun M f (used M f tuple) (run M f (used M f tuple) count)
   pub answer : r ≡ gives ((run M f (used M f tuple) count) .outcome)
 
--- one claim about the two answers
+-- the claim about one verdict and one answer of a run
 abbrev pub JudgedAlike : List ℕ → ℕ → List ℕ → ℕ → verdict-type.Verdict → run-type.RunAnswer → Type 0
 JudgedAlike b f tuple count verdict outcome =
     verdictSaid verdict ≡ gives tt → CoveredOpening (modelOf b) f tuple → SoundAnswer (modelOf b) f tuple count (runSaid outcome)
+
+-- The claim about any two calls on the same bytes: whatever verdict v the check call answered with a scratch of n bytes, and whatever answer r the run
+-- call gave with a scratch of k bytes that are enough. The calls share nothing but the bundle, and either may have come first.
+abbrev pub CallsJudgeAlike : Type 0
+CallsJudgeAlike =
+    (b : List ℕ) (n : ℕ) (v : verdict-type.Verdict)
+    → Checks b n v
+    → (k f : ℕ) (tuple : List ℕ) (count : ℕ) (r : run-type.RunAnswer)
+    → runSaid r ≡ runCall b k f tuple count
+    → scratchBytes ≤ k
+    → JudgedAlike b f tuple count v r

@@ -25,7 +25,7 @@ ghost use Rattle.layout.specs.Opened.{Opened};
 ghost use Rattle.dispatch.specs.Matrix.{Filled};
 ghost use Rattle.machine.specs.Endings.{outcomeOf};
 ghost use Rattle.curiumtoad.specs.Said.{runSaid};
-ghost use Rattle.curiumtoad.specs.Accepted.{coversSend, Accepts, EndsSound, Ends, Unended, refusedAs};
+ghost use Rattle.curiumtoad.specs.Accepted.{coversSend, Accepts, Unstopped, Ends, Unended, refusedAs};
 
 // A class, Spent or Deep, each with the steps made; the finding of a check that did not accept; an opening send that no signature covers; or a refusal of
 // the call itself.
@@ -82,9 +82,9 @@ fn is_covered(bundle: &[u8], b: Bundle, scratch: &[u8], f: usize, args: &[usize]
     false
 }
 
-// The end of a run that is sound.
+// The answer for a run that no number stopped.
 fn sound_end(outcome: Outcome) -> AcceptedRun
-    requires { ⌜ EndsSound outcome ⌝ }
+    requires { ⌜ Unstopped (outcome .ending) ⌝ }
     ensures { λ r. ⌜ Ends r (outcomeOf outcome) ⌝ }
 {
     let ending = outcome.ending;

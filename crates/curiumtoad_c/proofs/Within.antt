@@ -98,7 +98,7 @@ module _ (M : Model) (w : Wellformed M) (f : ℕ) (args : List ℕ) where
 
   pub rivals-small : (m n : ℕ) → lookup M f args ≡ ambiguous m n → every small (m ∷ n ∷ []) ≡ true
   rivals-small m n e =
-      let (p, q, less) = lookup-rivals M w f args m n e in
+      let (p, q, less, _) = lookup-rivals M w f args m n e in
       also m _ (method-small (p .candidate .bound)) (alone n (method-small (q .candidate .bound)))
 
   pub found-answer-small : (tuple : List ℕ) → every small (f ∷ tuple) ≡ true → Small method (foundAnswer f tuple (lookup M f args))

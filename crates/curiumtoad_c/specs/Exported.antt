@@ -6,7 +6,7 @@ use mathlib.Core.Path.{_≡_}
 use mathlib.Core.Bool.{Bool}
 use mathlib.Core.List.{List, [], _∷_, _++_}
 use lib.ListN.{length, take, replicate}
-use Rattle.rules.specs.Layout.{Answer, gives, refuses, offset, codeSection, bodyOffset}
+use Rattle.rules.specs.Layout.{Answer, gives, refuses, codeAt}
 use Rattle.rules.specs.Model.{modelOf}
 use Rattle.rules.specs.Coverage.{NamesBroken}
 use Rattle.rules.specs.Machine.{Ending, value, spent, deep, stopped, Outcome}
@@ -51,7 +51,7 @@ method m = m ∷ []
 
 -- the body view: where the part begins within the bundle, and its length
 abbrev pub placed : List ℕ → ℕ → List ℕ → List ℕ
-placed b m part = (offset b codeSection + bodyOffset b m) ∷ length part ∷ []
+placed b m part = codeAt b m ∷ length part ∷ []
 
 -- A run's own ending has a number where it was stopped. A value is 0 with its class, Spent 1, Deep 2; the last of the eight are the steps.
 abbrev pub endingNumber : Ending → ℕ

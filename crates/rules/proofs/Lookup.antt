@@ -1,14 +1,14 @@
 -- Lookup: what is found applies, leads and is the only one that does; none is found exactly when none applies; an ambiguous lookup has two rivals to
 -- name; narrowing the methods place by place comes to the same list as filtering at once.
 -- Assumes nothing.
-use Prim.Native.Nat.{ℕ, zero, suc, _+_, _<_}
+use Prim.Native.Nat.{ℕ, _<_, _≤_}
 use native.Mathlib.Omega.{arith}
 use native.Mathlib.Nat.{not-suc-le-zero, le-of-eq}
 use native.Mathlib.Decide.{ℕ-discrete}
 use mathlib.Core.Path.{_≡_, refl, sym, ap, _∙_}
 use mathlib.Core.Bool.{Bool, true, false, not, _&&_, _||_, false≢true, and-true}
 use mathlib.Core.Logic.{_⊎_, inl, inr, _↔_}
-use mathlib.Core.List.{List, [], _∷_, _++_, List·Memᴰ, List·Memᴰ·head, List·Memᴰ·tail, List·Memᴰ·not-nil, List·Memᴰ·eq-of-singleton}
+use mathlib.Core.List.{List, [], _∷_, _++_, List·Memᴰ, List·Memᴰ·head, List·Memᴰ·tail, List·Memᴰ·not-nil, List·Memᴰ·cases-cons, List·Memᴰ·eq-of-singleton}
 use mathlib.Core.Option.{Option, none, some}
 use lib.Dec.{eqb}
 use lib.ListN.{length, getD, take, drop}
@@ -214,6 +214,29 @@ module _ (M : Model) (w : Wellformed M) (f : ℕ) (args : List ℕ) where
         alone = λ n c d. unbeaten-alone M ms m u n (candidate-applicable M f args c) d;
       }
 
+  -- and each rival is listed
+  rival-in : (m : ℕ) → Rival M f args m → List·Memᴰ m (rivals M (applicable M f args))
+  unfolding rivals
+  rival-in m r =
+      keep-in (unbeaten M (applicable M f args)) (applicable M f args) (candidate-applicable M f args (r .candidate))
+      (alone-unbeaten M (applicable M f args) m (λ n k. other n (applicable-candidate M f args k) (ℕ-discrete n m)))
+    where
+      other : (n : ℕ) → Candidate M f args n → Dec (n ≡ m) → (n ≡ m) ⊎ (asSpecific M n m ≡ false)
+      other n c (yes s) = inl s
+      other n c (no d) = inr (r .alone n c d)
+
+  -- where an element of a rising list may stand
+  placed : (k a b : ℕ) (rest : List ℕ) → Rising (a ∷ b ∷ rest) → List·Memᴰ k (a ∷ b ∷ rest) → (k ≡ a) ⊎ (b ≤ k)
+  placed k a b rest rising h = at (List·Memᴰ·cases-cons h)
+    where
+      from : (k ≡ b) ⊎ List·Memᴰ k rest → b ≤ k
+      from (inl s) = omega (arith, s)
+      from (inr m) = omega (arith, rising .1 .0 k m)
+
+      at : (k ≡ a) ⊎ List·Memᴰ k (b ∷ rest) → (k ≡ a) ⊎ (b ≤ k)
+      at (inl s) = inl s
+      at (inr m) = inr (from (List·Memᴰ·cases-cons m))
+
   -- one rival alone would lead
   alone-leads : (m : ℕ) → rivals M (applicable M f args) ≡ m ∷ [] → leads M (applicable M f args) m ≡ true
   alone-leads m e = all-leads M (applicable M f args) m (λ n k. go n (rival-below n k))
@@ -238,8 +261,9 @@ module _ (M : Model) (w : Wellformed M) (f : ℕ) (args : List ℕ) where
           absurd (false≢true (sym (first-none (leads M (applicable M f args)) (applicable M f args) free m) ∙ alone-leads a r))
       go (a ∷ b ∷ rest) r low = (a, b, rest, r)
 
-  -- "where no such method exists, it is 11, naming the two lowest-numbered …, lower first"
-  pub lookup-rivals : (m n : ℕ) → lookup M f args ≡ ambiguous m n → Rival M f args m × Rival M f args n × (m < n)
+  -- Number 11 names two rivals, lower first, and every rival is one of them or stands above both: none is before the first or between the two.
+  pub lookup-rivals : (m n : ℕ) → lookup M f args ≡ ambiguous m n
+      → Rival M f args m × Rival M f args n × (m < n) × ((k : ℕ) → Rival M f args k → (k ≡ m) ⊎ (n ≤ k))
   unfolding lookup
   lookup-rivals m n e = go (applicable M f args) refl (select-ambiguous M (applicable M f args) m n e)
     where
@@ -248,7 +272,7 @@ module _ (M : Model) (w : Wellformed M) (f : ℕ) (args : List ℕ) where
           × (0 < length (applicable M f args))
           × (m ≡ getD (rivals M (applicable M f args)) 0 0)
           × (n ≡ getD (rivals M (applicable M f args)) 1 0)
-          → Rival M f args m × Rival M f args n × (m < n)
+          → Rival M f args m × Rival M f args n × (m < n) × ((k : ℕ) → Rival M f args k → (k ≡ m) ⊎ (n ≤ k))
       go [] s (free, one, p, q) = absurd (not-suc-le-zero (rw s at one))
       go (x ∷ xs) s (free, one, p, q) =
           let (a, b, rest, r) = two-rivals x (rw s (List·Memᴰ·head refl)) free in
@@ -258,6 +282,7 @@ module _ (M : Model) (w : Wellformed M) (f : ℕ) (args : List ℕ) where
             rw p′ (rival-of a (rw r (List·Memᴰ·head refl))),
             rw q′ (rival-of b (rw r (List·Memᴰ·tail (List·Memᴰ·head refl)))),
             rw (p′, q′) (rising .0 b (List·Memᴰ·head refl)),
+            (λ k v. rw (p′, q′) (placed k a b rest rising (rw r at (rival-in k v)))),
           )
 
   -- a leader is what lookup finds
@@ -268,7 +293,7 @@ module _ (M : Model) (w : Wellformed M) (f : ℕ) (args : List ℕ) where
       go (found n) e = e ∙ ap (λ (k : ℕ). found k) (leader-unique n m (lookup-leader M f args n e) l)
       go missing e = absurd (lookup-missing M f args .0 e m (l .candidate))
       go (ambiguous a b) e =
-          let (p, q, h) = lookup-rivals a b e in
+          let (p, q, h, _) = lookup-rivals a b e in
           -- m is at least as specific as both rivals, so it is both
           absurd (both a b p q h)
         where

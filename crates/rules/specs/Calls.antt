@@ -6,7 +6,7 @@ use mathlib.Core.List.{List, [], _∷_, _++_, map}
 use lib.Dec.{ltb, leb}
 use lib.ListN.{length, take, drop}
 use Rattle.rules.specs.Bounded.{upto, every}
-use Rattle.rules.specs.Layout.{Answer, gives, refuses, opening, codeOf, require, tupleRule}
+use Rattle.rules.specs.Layout.{Answer, gives, refuses, opening, codeAt, codeOf, require, tupleRule}
 use Rattle.rules.specs.Model.{Model, modelOf}
 use Rattle.rules.specs.Subclass.{subclass}
 use Rattle.rules.specs.Lookup.{Found, found, missing, ambiguous, lookup}
@@ -107,6 +107,14 @@ witnessCall b scratch s tuple = withScratch b scratch (witnessIn s tuple)
 -- "The body view hands back the part of the bundle that is the method's code."
 unfoldable pub bodyViewCall : List ℕ → ℕ → Answer (List ℕ)
 bodyViewCall b m = whenOpen b (λ M. require (ltb m (M .methods)) 18 (gives (codeOf b m)))
+
+unfoldable pub startOn : Answer (List ℕ) → ℕ → ℕ
+startOn (gives code) at = at
+startOn (refuses number values) at = 0
+
+-- where the part begins within the bundle; the empty part of a refusal begins where the bundle does
+unfoldable pub bodyViewStart : List ℕ → ℕ → ℕ
+bodyViewStart b m = startOn (bodyViewCall b m) (codeAt b m)
 
 -- "A run has a function, concrete argument classes and a step count of 32 bits."
 unfoldable pub runIn : ℕ → List ℕ → ℕ → Model → Answer Outcome

@@ -1,33 +1,47 @@
--- "The chart bundles": the cases that document 01 marks P, as one table, and worked cases beside them.
+-- The cases that are marked P, as one table, and further worked cases beside them: each entry point, and each number that a call can give.
 -- Assumes nothing.
-use Prim.Native.Nat.{ℕ}
+use Prim.Native.Nat.{ℕ, _+_}
 use mathlib.Core.Path.{_≡_}
-use mathlib.Core.List.{List, [], _∷_}
+use mathlib.Core.Bool.{Bool, true, false}
+use mathlib.Core.List.{List, [], _∷_, _++_, map}
 use lib.Dec.{eqb}
-use lib.ListN.{length, getD, replicate}
-use Rattle.rules.specs.Bounded.{upto, keep}
+use lib.ListN.{replicate}
+use Rattle.rules.specs.Bounded.{upto, any}
 use Rattle.rules.specs.Layout.{Answer, gives, refuses}
+use Rattle.rules.specs.Types.{Static}
 use Rattle.rules.specs.Machine.{Ending, value, spent, deep, stopped}
-use Rattle.rules.specs.Calls.{scratchBytes, rowBytes, openingCall, lookupCall, checkCall, runCall, rowAfter}
-use Rattle.rules.specs.Samples.{chart3, chart4, chart5, loop, oneClass, abstractArgument, narrowDeclared, wideResult, twoValues, abstractNew, noLicence, looseResult}
+use Rattle.rules.specs.Calls.{scratchBytes, rowBytes, openingCall, ancestryCall, lookupCall, sendTypeCall, checkCall, witnessCall, bodyViewCall, bodyViewStart, runCall, bit, rowAfter}
+use Rattle.rules.specs.Samples.{chart3, chart4, chart5, loop, oneClass, abstractArgument, narrowDeclared, wideResult, twoValues, abstractNew, noLicence, looseResult, twentyThreeBytes, directoryGap, emptySections, ownParent, fourArguments, absentResult, emptyBody, twinMethods, unknownOperation, noMethod}
 
--- A call on a bundle, with what it comes to. Scratch and row are large enough, and the row is 9 throughout before the call.
+-- A call on a bundle, with what it comes to. Scratch and row are large enough, but for `checksIn` and `typesIn`, which give their length.
 pub data Case : Type 0 where
   opens : List ℕ → Answer (List ℕ) → Case
+  views : List ℕ → ℕ → List ℕ → ℕ → Case
+  asks : List ℕ → ℕ → ℕ → Bool → Case
   finds : List ℕ → ℕ → List ℕ → Answer ℕ → Case
   checks : List ℕ → Answer (Unit {0}) → Case
+  checksIn : List ℕ → ℕ → Answer (Unit {0}) → Case
+  witnesses : List ℕ → ℕ → List ℕ → Answer (Unit {0}) → Case
   types : List ℕ → ℕ → List ℕ → List ℕ → Case
+  typesIn : List ℕ → ℕ → ℕ → List ℕ → Answer Static → Case
   runs : List ℕ → ℕ → List ℕ → ℕ → Ending → ℕ → Case
 
--- the classes whose byte of a row is 1
-unfoldable pub ones : List ℕ → List ℕ
-ones row = keep (λ k. eqb (getD row k 0) 1) (upto (length row))
+-- the row of a type that has these classes
+unfoldable pub rowOf : List ℕ → List ℕ
+rowOf classes = map (λ k. bit (any (eqb k) classes)) (upto rowBytes)
 
+-- A send type is compared by its whole row, of which two bytes more are lent than it takes; all are 9 before the call.
 abbrev pub Stands : Case → Type 0
 Stands (opens b answer) = openingCall b ≡ answer
+Stands (views b m code start) = (bodyViewCall b m ≡ gives code) × (bodyViewStart b m ≡ start)
+Stands (asks b a c answer) = ancestryCall b scratchBytes a c ≡ gives answer
 Stands (finds b f tuple answer) = lookupCall b scratchBytes f tuple ≡ answer
 Stands (checks b answer) = checkCall b scratchBytes ≡ answer
-Stands (types b f tuple classes) = ones (rowAfter b scratchBytes (replicate rowBytes 9) f tuple) ≡ classes
+Stands (checksIn b n answer) = checkCall b n ≡ answer
+Stands (witnesses b s tuple answer) = witnessCall b scratchBytes s tuple ≡ answer
+Stands (types b f tuple classes) =
+    rowAfter b scratchBytes (replicate (rowBytes + 2) 9) f tuple ≡ rowOf classes ++ 9 ∷ 9 ∷ []
+Stands (typesIn b n f tuple answer) = sendTypeCall b scratchBytes n f tuple ≡ answer
 Stands (runs b f tuple count e steps) = runCall b scratchBytes f tuple count ≡ gives (record { ending = e; steps = steps })
 
 abbrev pub AllStand : List Case → Type 0
@@ -50,19 +64,42 @@ marked =
     ∷ runs loop 0 (0 ∷ 0 ∷ 0 ∷ []) 32 deep 31
     ∷ []
 
--- Further worked cases: the listing of chart-3, one class alone, and one bundle for each rule that the marked cases leave untried.
+-- Further worked cases: the charts again, one class alone, each entry point, and one bundle for each number.
 abbrev pub worked : List Case
 worked =
     opens chart3 (gives (8 ∷ 1 ∷ 1 ∷ 3 ∷ []))
     ∷ checks chart3 (refuses 11 (0 ∷ 0 ∷ 2 ∷ 4 ∷ 0 ∷ 0 ∷ 1 ∷ []))
+    ∷ views chart3 0 (1 ∷ 6 ∷ []) 121
+    ∷ views chart3 2 (1 ∷ 6 ∷ []) 125
+    ∷ asks chart3 2 1 true
+    ∷ asks chart3 1 2 false
+    ∷ witnesses chart4 0 (2 ∷ 4 ∷ 0 ∷ []) (gives tt)
+    ∷ witnesses chart3 0 (2 ∷ 4 ∷ 0 ∷ []) (refuses 11 (0 ∷ 0 ∷ 2 ∷ 4 ∷ 0 ∷ 0 ∷ 1 ∷ []))
     ∷ checks oneClass (gives tt)
     ∷ checks abstractArgument (gives tt)
+    ∷ opens twentyThreeBytes (refuses 1 [])
+    ∷ opens directoryGap (refuses 2 [])
+    ∷ opens emptySections (refuses 3 [])
+    ∷ opens ownParent (refuses 4 (1 ∷ []))
+    ∷ opens fourArguments (refuses 5 (1 ∷ []))
+    ∷ opens absentResult (refuses 6 (0 ∷ []))
+    ∷ opens emptyBody (refuses 7 (0 ∷ []))
+    ∷ opens twinMethods (refuses 8 (1 ∷ []))
+    ∷ opens unknownOperation (refuses 9 (0 ∷ []))
+    ∷ checks noMethod (refuses 10 (0 ∷ 0 ∷ 0 ∷ 0 ∷ 0 ∷ []))
+    ∷ finds noMethod 0 (0 ∷ 0 ∷ 0 ∷ []) (refuses 10 (0 ∷ 0 ∷ 0 ∷ 0 ∷ []))
     ∷ checks narrowDeclared (refuses 12 (0 ∷ 0 ∷ 0 ∷ 0 ∷ 0 ∷ 0 ∷ []))
     ∷ checks wideResult (refuses 13 (0 ∷ 0 ∷ 0 ∷ 0 ∷ 0 ∷ 0 ∷ []))
     ∷ checks twoValues (refuses 14 (0 ∷ 2 ∷ []))
     ∷ checks abstractNew (refuses 15 (0 ∷ 0 ∷ []))
     ∷ checks noLicence (refuses 16 (0 ∷ 1 ∷ []))
     ∷ checks looseResult (refuses 17 (0 ∷ 1 ∷ []))
+    ∷ runs narrowDeclared 0 (0 ∷ 0 ∷ 0 ∷ []) 9 (stopped 12 (0 ∷ 0 ∷ 0 ∷ 0 ∷ 0 ∷ [])) 0
     ∷ runs twoValues 0 (0 ∷ 0 ∷ 0 ∷ []) 9 (stopped 14 (0 ∷ 2 ∷ [])) 2
     ∷ runs abstractNew 0 (0 ∷ 0 ∷ 0 ∷ []) 9 (stopped 15 (0 ∷ 0 ∷ [])) 0
+    ∷ typesIn noLicence rowBytes 1 (0 ∷ 0 ∷ 0 ∷ []) (refuses 16 [])
+    ∷ finds chart3 1 (1 ∷ 3 ∷ 0 ∷ []) (refuses 18 [])
+    ∷ finds chart3 0 (1 ∷ 3 ∷ 1 ∷ []) (refuses 18 [])
+    ∷ checksIn chart4 16383 (refuses 19 [])
+    ∷ typesIn chart5 127 0 (2 ∷ 4 ∷ 0 ∷ []) (refuses 20 [])
     ∷ []

@@ -204,8 +204,12 @@ bodyOffset b m = word b (methodAt b m + 8)
 unfoldable pub bodyLength : List ℕ → ℕ → ℕ
 bodyLength b m = word b (methodAt b m + 10)
 
+-- where the body begins within the bundle
+abbrev pub codeAt : List ℕ → ℕ → ℕ
+codeAt b m = offset b codeSection + bodyOffset b m
+
 unfoldable pub codeOf : List ℕ → ℕ → List ℕ
-codeOf b m = part b (offset b codeSection + bodyOffset b m) (bodyLength b m)
+codeOf b m = part b (codeAt b m) (bodyLength b m)
 
 -- "Bodies follow in method order from offset 0 without gaps and end the section; each is 2 to 128 bytes, an even number."
 unfoldable pub methodRule : List ℕ → ℕ → Bool

@@ -1,4 +1,4 @@
--- Demand 3: "The checker that accepted a bundle and the stepper that runs it judge every send alike: one theorem about the whole run."
+-- Soundness, demand 3: in a run of an accepted bundle each send finds the one method that the check found for it, from the opening send to the run's end.
 -- Assumes nothing.
 use Prim.Native.Nat.{ℕ, _<_}
 use mathlib.Core.Path.{_≡_}

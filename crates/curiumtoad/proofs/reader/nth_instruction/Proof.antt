@@ -54,7 +54,7 @@ returns-3 c =
     let k = c .before .before .before .before .before in
     let o = k .before .before in
     let g = o .before .before in
-    let code = c .before .code-of .ensures in
+    let code = c .before .code-of .ensures .1 in
     ap gives (c .nth-reading .ensures ∙ ap (λ (x : List ℕ). readingAt x (g .args .n)) code)
     ∙ sym
     (instruction-given (g .args .bundle .now) (g .args .method) (g .args .n)

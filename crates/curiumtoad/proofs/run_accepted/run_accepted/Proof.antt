@@ -1,4 +1,4 @@
--- `curiumtoad::run_accepted::run_accepted` meets its contract: the answers of the check and of the run, and demand 3 for the end.
+-- `curiumtoad::run_accepted::run_accepted` meets its contract: the answers of the check and of the run, and their soundness for the end.
 -- Assumes nothing.
 use borrow.Author.Needs.{needs}
 use mathlib.Core.Path.{refl, sym, ap, _∙_}
@@ -10,7 +10,7 @@ use Rattle.rules.specs.Calls.{used}
 use Rattle.layout.proofs.Opened.{opened-of}
 use Rattle.machine.specs.Endings.{outcomeOf}
 use Rattle.curiumtoad.specs.Said.{runSaid}
-use Rattle.curiumtoad.proofs.Accepting.{accepted-check, ended-call, not-accepted, sound-end, accepts-end, accepted-opens, accepted-filled, answered-send, covered-opening, not-covered}
+use Rattle.curiumtoad.proofs.Accepting.{accepted-check, ended-call, not-accepted, outcome-unstopped, sound-end, accepts-end, accepted-opens, accepted-filled, answered-send, covered-opening, not-covered}
 use Rattle.curiumtoad.proofs.run_accepted.run_accepted.Statement.{statement}
 use Rattle.curiumtoad.proofs.run_accepted.run_accepted.Tie as tie
 
@@ -130,7 +130,8 @@ sound-end-requires c κs =
     let count = g .args .count in
     let a = c .before .before .before .before .before .before .before .before .before .before .before .answer .given in
     let ended = ended-call b n f tuple count (a .0 .0) (a .1) (k .checked-run .ensures .1 .0) in
-    sound-end b n f tuple count (a .0 .0) (c .before .before .before .before .before .before .before .before .enum-told2 .given .1) (a .1) ended (k .checked-run .ensures .1 .1 .0) (sym (c .before .is-covered .ensures) ∙ not-false _ (c .if1 .left))
+    outcome-unstopped (modelOf b) f tuple count (a .0 .0)
+    (sound-end b n f tuple count (a .0 .0) (c .before .before .before .before .before .before .before .before .enum-told2 .given .1) (a .1) ended (k .checked-run .ensures .1 .1 .0) (sym (c .before .is-covered .ensures) ∙ not-false _ (c .if1 .left)))
 
 same-length-5 : tie.Need-same-length-5
 same-length-5 c = search needs
@@ -147,7 +148,10 @@ returns-5 c =
     let a = c .before .before .before .before .before .before .before .before .before .before .before .before .answer .given in
     let ended = ended-call b n f tuple count (a .0 .0) (a .1) (k .checked-run .ensures .1 .0) in
     let checked = accepted-check b n f tuple count (c .before .before .before .before .before .before .before .before .before .enum-told2 .given .1) (k .checked-run .ensures .0) in
-    (accepts-end b n f tuple count (c .sound-end .result) (outcomeOf (a .0 .0)) (c .sound-end .ensures) checked (covered-opening b n f tuple count ended (sym (c .before .before .is-covered .ensures) ∙ not-false _ (c .before .if1 .left))) ended, k .checked-run .ensures .1 .1 .1)
+    let covers = sym (c .before .before .is-covered .ensures) ∙ not-false _ (c .before .if1 .left) in
+    let told = c .before .before .before .before .before .before .before .before .before .enum-told2 .given .1 in
+    let sound = sound-end b n f tuple count (a .0 .0) told (a .1) ended (k .checked-run .ensures .1 .1 .0) covers in
+    (accepts-end b n f tuple count (c .sound-end .result) (outcomeOf (a .0 .0)) (c .sound-end .ensures) checked (covered-opening b n f tuple count ended covers) ended sound, k .checked-run .ensures .1 .1 .1)
 
 pub run-accepted-spec : {M : Type 1} → statement M
 run-accepted-spec =

@@ -1,9 +1,9 @@
 -- `curiumtoad::view::code_of` meets its contract: the part from the span's place on, as long as the span.
 -- Assumes nothing.
 use borrow.Author.Needs.{needs}
-use Prim.Native.Nat.{_+_, _-_}
+use Prim.Native.Nat.{ℕ, _+_, _-_}
 use native.Mathlib.Omega.{arith}
-use mathlib.Core.Path.{_≡_}
+use mathlib.Core.Path.{_≡_, ap}
 use Rattle.rules.specs.Bytes.{part}
 use Rattle.curiumtoad.proofs.view.code_of.Statement.{statement}
 use Rattle.curiumtoad.proofs.view.code_of.Tie as tie
@@ -29,7 +29,8 @@ returns c =
     let s = c .before .before in
     let span = s .body-span .result in
     let size : span .at + span .len - span .at ≡ span .len = omega arith in
-    rw size (s .body-span .ensures .code)
+    let p = c .before .before .before .before .args .bundle .ptr in
+    (ap (λ (x : ℕ). (p .0, x + p .1)) (s .body-span .ensures .place), rw size (s .body-span .ensures .code))
 
 pub code-of-spec : {M : Type 1} → statement M
 code-of-spec = tie.close (tie.spec body-span-requires add-end sub-result part-result-start part-result-end returns)
