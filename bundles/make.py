@@ -96,6 +96,8 @@ SAMPLES = {
     "twin-methods": bundle(ALONE, [1], [], [(0, [0], [0], 0, [(ARG, 0)]), (0, [0], [0], 0, [(NEW, 0)])]),
     "unknown-operation": bundle(ALONE, [0], [(0, [], 0)], [(0, [], [], 0, [(3, 0)])]),
     "no-method": bundle(ALONE, [0], [(0, [], 0)]),
+    # Two signatures have no method, and the one body that there is ends with two values: the lower signature is named.
+    "three-faults": bundle(ALONE, [0, 0, 0], [(0, [], 0), (1, [], 0)], [(2, [], [], 0, [(NEW, 0), (NEW, 0)])]),
 }
 
 
@@ -197,6 +199,9 @@ SHOWN = {
     "no-method": (
         "refused by 10: a signature without arguments, and no method at all",
         ["classes 1 functions 1 signatures 1 methods 0", "refused 10 signature 0 send 0"]),
+    "three-faults": (
+        "refused by 10: the lower of two broken signatures, before a broken body",
+        ["classes 1 functions 3 signatures 2 methods 1", "refused 10 signature 0 send 0"]),
     "uncovered-class": (
         "refused by 10: no method applies to one of the two concrete classes",
         ["classes 3 functions 1 signatures 1 methods 1", "refused 10 signature 0 send 0 2"]),
