@@ -121,7 +121,7 @@ FURTHER = {
         ALONE, [1, 0], [(0, [0], 0), (1, [], 0)], [(0, [0], [0], 0, [(ARG, 0)]), (1, [], [], 0, [(SEND, 0)])]),
 }
 
-# What each sample is, and the lines that the listing program has to print for it. They are written down from document 01 and not worked out by any
+# What each sample is, and the lines that the listing program has to print for it. They are written down from the rules and not worked out by any
 # program. No refused sample has a second broken tuple, so the one that is named is determined.
 SHOWN = {
     "chart-3": (

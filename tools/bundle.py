@@ -76,7 +76,7 @@ class Refused(Exception):
 
 
 class Unopened(Exception):
-    """document 01's number, and the record that it names, if any"""
+    """the number, and the record that it names, if any"""
 
     def __init__(self, number, record=None):
         super().__init__(number, record)

@@ -1,12 +1,14 @@
 #!/usr/bin/env python3
-"""Make the cases of the test programs: what each reads from standard input, and what it has to print.
+"""Make the cases of the test program call_cases: what it reads from standard input, and what it has to print. docs/CASES.md has the format.
 
-usage: tools/vectors.py FOLDER          write them, from the vectors of FOLDER (JSON lines), the cases of document 01 and the sample bundles
-       tools/vectors.py FOLDER --check  write nothing; say which differ, and exit with 1 if any does
+usage: tools/vectors.py FOLDER          write them, from the vectors of FOLDER (JSON lines), the cases that the rules name and the sample bundles
+       tools/vectors.py FOLDER --check  write nothing; say which files differ, and exit with 1 if any does
+       tools/vectors.py one N           from the cases on standard input write the one numbered N, with its bundle, to standard output
 
-The rules of document 01 for opening, ancestry and lookup stand here a second time. They give the answers for bundles that no vector has, and every
+The rules for opening, ancestry and lookup stand a second time in rules.py. They give the answers for bundles that no vector has, and every
 vector is held to them, so that an answer on which the two differ is never passed on. The other answers, of runs, checks, send types and witnesses,
-are those of the vectors and of document 01 as they stand; those for bundles made here are worked out by hand from its rules.
+are those of the vectors and of the rules' own cases as they stand; those for bundles made here are worked out by hand from its rules. The answers of accepted
+runs follow from those of the run and the check and from which signatures cover the send.
 """
 import itertools
 import json
@@ -18,191 +20,12 @@ sys.dont_write_bytecode = True
 sys.path.insert(0, str(ROOT / "bundles"))
 import make  # noqa: E402
 from made import write_or_check  # noqa: E402
+from rules import (  # noqa: E402
+    ABSENT, ASKED, CLASSES, FUNCTIONS, LONGEST, MATRIX, METHODS, PLACES, SHORT, SHORT_ROW, SIGNATURES, asked, instruction, is_covered, opening, reading,
+    refused, spans, view)
+from stream import ENDS, NOT_COVERED, ROW, SCRATCH, SCRATCHED, SHORT_TEXT, Call, one, reply, stream_of, tally  # noqa: E402
 
-LONGEST = 65535
-CLASSES, FUNCTIONS, SIGNATURES, METHODS, PLACES = 128, 64, 256, 512, 3
-ABSENT, SHORT, SHORT_ROW = 18, 19, 20
-# The ends of a run that fails nowhere have no numbers in document 01. The test program gives them these.
-ENDS = {"value": 32, "spent": 33, "deep": 34}
-# Nor has a buffer that is too short for a listing.
-SHORT_TEXT = 35
-MATRIX = 16384
-# The scratch of a call is longer than the matrix, so that a byte written past it shows.
-SCRATCH = 17000
-# So is the row longer than a type.
-ROW = 140
 MOST = 2**32 - 1
-
-
-# The rules
-
-
-def word(data, at):
-    return data[at] + 256 * data[at + 1]
-
-
-def spans(bundle):
-    """offset and length of each section"""
-    return [(word(bundle, at), word(bundle, at + 2)) for at in range(0, 24, 4)]
-
-
-def records(section, width):
-    return [section[at:at + width] for at in range(0, len(section), width)]
-
-
-def follow(lists, end):
-    """for each (offset, length): whether it begins where the one before it ends, lies within end, and, for the last, reaches it"""
-    at = 0
-    for k, (offset, length) in enumerate(lists):
-        at += length
-        yield offset + length == at <= end and (at == end or k + 1 < len(lists))
-
-
-def lowest(number, kept):
-    """the number and the record that is the first not to keep its rule, or nothing"""
-    return next(((number, [k]) for k, keeps in enumerate(kept) if not keeps), None)
-
-
-def opening(bundle):
-    """document 01's number, 0 where the bundle opens, with its values"""
-    if not 24 <= len(bundle) <= LONGEST:
-        return 1, []
-    sections, at = [], 24
-    for offset, length in spans(bundle):
-        if offset != at:
-            return 2, []
-        sections.append(bundle[at:at + length])
-        at += length
-    if at != len(bundle):
-        return 2, []
-    parents, code = sections[1], sections[5]
-    if any(len(sections[k]) % width for k, width in [(0, 6), (3, 5), (4, 12), (5, 2)]) or (code and not sections[4]):
-        return 2, []
-    classes, functions, signatures, methods = (records(sections[k], width) for k, width in [(0, 6), (2, 1), (3, 5), (4, 12)])
-    counts = [len(classes), len(functions), len(signatures), len(methods)]
-    if not classes or any(count > limit for count, limit in zip(counts, [CLASSES, FUNCTIONS, SIGNATURES, METHODS])):
-        return 3, []
-
-    def class_kept(k, record):
-        above = parents[word(record, 2):][:word(record, 4)]
-        rising = all(lower < higher for lower, higher in itertools.pairwise([*above, k]))
-        return record[0] <= 1 and record[1] == 0 and rising and (k == 0) == (word(record, 4) == 0)
-
-    def places_kept(function, places):
-        arity = functions[function][0]
-        return all(c < len(classes) for c in places[:arity]) and not any(places[arity:])
-
-    def signature_kept(record):
-        return record[0] < len(functions) and places_kept(record[0], record[1:4]) and record[4] < len(classes)
-
-    def method_kept(record):
-        if record[0] >= len(functions) or record[7] >= len(classes) or word(record, 10) not in range(2, 129, 2):
-            return False
-        return places_kept(record[0], record[1:4]) and places_kept(record[0], record[4:7])
-
-    def applies_to(record):
-        """the function and the specialisers"""
-        return record[:4]
-
-    def instruction_kept(function, operation, operand):
-        limits = [functions[function][0], len(classes), len(functions)]
-        return operation < len(limits) and operand < limits[operation]
-
-    lists = list(follow([(word(record, 2), word(record, 4)) for record in classes], len(parents)))
-    bodies = list(follow([(word(record, 8), word(record, 10)) for record in methods], len(code)))
-    # Each rule is judged only where the ones before it hold, since a later one reads what an earlier one makes sure is there.
-    rules = [
-        lambda: lowest(4, (class_kept(k, record) and lists[k] for k, record in enumerate(classes))),
-        lambda: lowest(5, (record[0] <= PLACES for record in functions)),
-        lambda: lowest(6, (signature_kept(record) for record in signatures)),
-        lambda: lowest(7, (method_kept(record) and bodies[k] for k, record in enumerate(methods))),
-        lambda: lowest(8, (applies_to(record) not in map(applies_to, methods[:k]) for k, record in enumerate(methods))),
-        lambda: lowest(9, (
-            all(instruction_kept(record[0], *instruction) for instruction in records(code[word(record, 8):][:word(record, 10)], 2))
-            for record in methods)),
-    ]
-    return next(filter(None, (rule() for rule in rules)), (0, counts))
-
-
-def refused(number, values):
-    """what a view answers for a bundle that does not open: the number, and the record it names, with an empty part"""
-    return number, values[0] if values else 0, 0
-
-
-def view(bundle, method):
-    """number, then the part's start and length; for a refusal the record it names, or 0, and 0"""
-    number, values = opening(bundle)
-    if number:
-        return refused(number, values)
-    if method >= values[3]:
-        return ABSENT, 0, 0
-    record = bundle[spans(bundle)[4][0] + 12 * method:][:12]
-    return 0, spans(bundle)[5][0] + word(record, 8), word(record, 10)
-
-
-def reading(code, position):
-    """the values of what is read at a position of any bytes, counted in instructions: one more than the operation, and the operand; both are 0 where
-    no whole instruction with a known operation stands"""
-    pair = code[2 * position:][:2]
-    return [pair[0] + 1, pair[1]] if len(pair) == 2 and pair[0] <= 2 else [0, 0]
-
-
-def instruction(bundle, method, position):
-    """number and values of what is read at a position of a method's code"""
-    opened, values = opening(bundle)
-    if opened:
-        return opened, values
-    number, start, length = view(bundle, method)
-    return number, [] if number else reading(bundle[start:][:length], position)
-
-
-def above(bundle):
-    """for each class the set of those it is under"""
-    (class_at, length), (parent_at, _) = spans(bundle)[:2]
-    sets = []
-    for k, record in enumerate(records(bundle[class_at:][:length], 6)):
-        sets.append({k}.union(*(sets[p] for p in bundle[parent_at + word(record, 2):][:word(record, 4)])))
-    return sets
-
-
-def ancestry(bundle, a, b):
-    """number and values, 1 for yes and 0 for no, of an opened bundle"""
-    sets = above(bundle)
-    return (0, [int(b in sets[a])]) if max(a, b) < len(sets) else (ABSENT, [])
-
-
-def lookup(bundle, function, *places):
-    """number and values, of an opened bundle: the method found; or the function and the places, with the rivals for 11"""
-    sets, (at, functions), (method_at, length) = above(bundle), spans(bundle)[2], spans(bundle)[4]
-    if function >= functions:
-        return ABSENT, []
-    arity = bundle[at + function]
-    if any(c >= len(sets) for c in places[:arity]) or any(places[arity:]):
-        return ABSENT, []
-
-    def under(classes, others):
-        return all(other in sets[c] for c, other in zip(classes[:arity], others))
-
-    applicable = {
-        m: record[1:4] for m, record in enumerate(records(bundle[method_at:][:length], 12)) if record[0] == function and under(places, record[1:4])}
-    if not applicable:
-        return 10, [function, *places]
-    leading = [m for m, own in applicable.items() if all(under(own, others) for others in applicable.values())]
-    if leading:
-        return 0, leading
-    unbeaten = [m for m, own in applicable.items() if not any(under(others, own) for o, others in applicable.items() if o != m)]
-    return 11, [function, *places, *unbeaten[:2]]
-
-
-ASKED = {"ancestry": ancestry, "lookup": lookup}
-
-
-def asked(bundle, scratch, kind, *numbers):
-    """the answer of a call that is lent so much scratch"""
-    number, values = opening(bundle)
-    if number:
-        return number, values
-    return ASKED[kind](bundle, *numbers) if scratch >= MATRIX else (SHORT, [])
 
 
 # Bundles that no vector has
@@ -259,7 +82,7 @@ def longest():
 
 
 def of_document_01():
-    """(bundle, number, values) for the cases of document 01 that opening answers, and for bundles at the limits"""
+    """(bundle, number, values) for the cases of the rules that opening answers, and for bundles at the limits"""
     alone = make.SAMPLES["one-class"]
     assert len(alone) == 30
     yield alone[:23], 1, []
@@ -323,13 +146,23 @@ def doubling_steps(last):
     return 5 * 2**last - 4
 
 
-# The cases, and the files
+# The cases
+
+
+def held(bundle, answer, second):
+    """stops where an expected answer is not the one that the rules give"""
+    if answer != second:
+        sys.exit(f"answers differ: {answer} expected, {second} by the rules, for the bundle {bundle.hex()[:200]}")
 
 
 def vectors(folder, name):
     for line in (folder / name).read_text().splitlines():
         entry = json.loads(line)
         yield entry, bytes.fromhex(entry["bundle"])
+
+
+def opened_samples():
+    return [bundle for bundle in make.SAMPLES.values() if opening(bundle)[0] == 0]
 
 
 def opening_vectors(folder):
@@ -339,62 +172,51 @@ def opening_vectors(folder):
 
 
 def opening_cases(folder):
-    """(bundle, number, values)"""
-    yield from opening_vectors(folder)
-    yield from of_document_01()
-    for bundle in make.SAMPLES.values():
-        yield bundle, *opening(bundle)
+    """(bundle, call, reply), as all of these"""
+    sampled = [(bundle, *opening(bundle)) for bundle in make.SAMPLES.values()]
+    for bundle, *answer in itertools.chain(opening_vectors(folder), of_document_01(), sampled):
+        held(bundle, tuple(answer), opening(bundle))
+        yield bundle, Call("opening"), reply(*answer)
 
 
-def view_cases(folder):
-    """(bundle, [(method, number, start, length)])"""
+def view_answers(folder):
+    """(bundle, method, number, start, length), as view answers"""
     for entry, bundle in vectors(folder, "view.jsonl"):
-        calls = []
         for call in entry["calls"]:
             answer = call["answer"]
-            calls.append((call["view"][0], answer["number"], answer.get("start", 0), answer.get("length", 0)))
-        yield bundle, calls
-    for bundle in make.SAMPLES.values():
+            yield bundle, call["view"][0], answer["number"], answer.get("start", 0), answer.get("length", 0)
+    for bundle in opened_samples():
         methods = opening(bundle)[1][3]
-        yield bundle, [(m, *view(bundle, m)) for m in [*range(methods), methods, LONGEST]]
-    long, too_long = longest()
-    for bundle in [long, too_long]:
-        yield bundle, [(m, *view(bundle, m)) for m in [0, 1, 255, 256, METHODS - 1, METHODS]]
+        for m in [*range(methods), methods, LONGEST]:
+            yield bundle, m, *view(bundle, m)
+    for bundle, m in itertools.product(longest(), [0, 1, 255, 256, METHODS - 1, METHODS]):
+        yield bundle, m, *view(bundle, m)
     # A view opens the bundle first: it refuses what opening refuses.
     for bundle, number, values in opening_vectors(folder):
         if number:
-            yield bundle, [(0, *refused(number, values))]
+            yield bundle, 0, *refused(number, values)
+
+
+def view_cases(folder):
+    """the values are the record of a refusal and the length of the part, and the part is copied to the row"""
+    for bundle, method, number, start, length in view_answers(folder):
+        held(bundle, (number, start, length), view(bundle, method))
+        values, part = ([start, 0], b"") if number else ([0, length], bundle[start:][:length])
+        yield bundle, Call("view", (method,), row=ROW), reply(number, values, written=part)
 
 
 def reader_cases(folder):
-    """(bundle, [(whether the bytes themselves are the code, method, position, number, values)])"""
-    def of_view(bundle, method, number, start, length):
-        """every instruction of the part, and some positions past them"""
+    """every instruction of a part, and some positions past them; where there is no part, the refusal"""
+    for bundle, method, number, start, length in view_answers(folder):
         past = [*range(length // 2, length // 2 + 2), METHODS, LONGEST, 2**63, 2**64 - 1]
-        code = bundle[start:][:length]
-        return [(False, method, at, number, [] if number else reading(code, at)) for at in [*range(length // 2), *past]]
-
-    def of_methods(bundle, methods):
-        return [call for m in methods for call in of_view(bundle, m, *view(bundle, m))]
-
-    for bundle in make.SAMPLES.values():
-        methods = opening(bundle)[1][3]
-        yield bundle, of_methods(bundle, [*range(methods), methods, LONGEST])
-    for entry, bundle in vectors(folder, "view.jsonl"):
-        answers = {call["view"][0]: call["answer"] for call in entry["calls"]}
-        yield bundle, [
-            call for m, answer in answers.items()
-            for call in of_view(bundle, m, answer["number"], answer.get("start", 0), answer.get("length", 0))]
-    long, too_long = longest()
-    for bundle in [long, too_long]:
-        yield bundle, of_methods(bundle, [0, 1, 255, 256, METHODS - 1, METHODS])
-    for bundle, number, values in opening_vectors(folder):
-        if number:
-            yield bundle, [(False, 0, 0, number, values)]
+        for at in [*range(length // 2), *past]:
+            answer = (number, [start] if start else []) if number else (0, reading(bundle[start:][:length], at))
+            held(bundle, reply(*answer), reply(*instruction(bundle, method, at)))
+            yield bundle, Call("instruction", (method, at)), reply(*answer)
     # Bytes that are no method's code: an unknown operation, a byte left over, none at all.
     for code in [b"", b"\0", b"\0\1", b"\1\7\2", b"\2\0\3\0\1\5", b"\xff\0\0\xff", *make.SAMPLES.values()]:
-        ends = [(len(code) + 1) // 2, 2**63, 2**64 - 1]
-        yield code, [(True, 0, at, 0, reading(code, at)) for at in [*range(len(code) // 2), *ends]]
+        for at in [*range(len(code) // 2), (len(code) + 1) // 2, 2**63, 2**64 - 1]:
+            yield code, Call("reading", (at,)), reply(0, reading(code, at))
 
 
 def answer_values(answer):
@@ -406,7 +228,7 @@ def answer_values(answer):
     return [answer["method"] if "method" in answer else int(answer["answer"] == "yes")]
 
 
-# P 1 to P 5 of document 01: (bundle, argument classes of function 0, number, values)
+# P 1 to P 5: (bundle, argument classes of function 0, number, values)
 P_CASES = [
     ("chart-3", [1, 3], 0, [2]),
     ("chart-3", [1, 4], 0, [0]),
@@ -435,58 +257,74 @@ def every_question(bundle):
         yield "lookup", [function, 0, 0, 0]
 
 
-def lookup_cases(folder):
-    """(bundle, [(scratch, kind, numbers, number, values)])"""
+def lookup_answers(folder):
+    """(bundle, scratch, kind, numbers, number, values)"""
     for entry, bundle in vectors(folder, "lookup.jsonl"):
-        calls = []
         for call in entry["calls"]:
             kind = next(kind for kind in ASKED if kind in call)
-            calls.append((SCRATCH, kind, call[kind], call["answer"]["number"], answer_values(call["answer"])))
-        yield bundle, calls
+            yield bundle, SCRATCH, kind, call[kind], call["answer"]["number"], answer_values(call["answer"])
     for name, places, number, values in P_CASES:
-        yield make.SAMPLES[name], [(SCRATCH, "lookup", [0, *places, 0], number, values)]
+        yield make.SAMPLES[name], SCRATCH, "lookup", [0, *places, 0], number, values
 
-    def answered(bundle, *parts):
-        """parts: (scratch, questions)"""
-        return bundle, [
-            (scratch, kind, numbers, *asked(bundle, scratch, kind, *numbers)) for scratch, questions in parts for kind, numbers in questions]
+    def answered(bundle, scratch, questions):
+        for kind, numbers in questions:
+            yield bundle, scratch, kind, numbers, *asked(bundle, scratch, kind, *numbers)
 
     # The last two name a class and a function that are absent: 19 comes before 18.
     few = [("ancestry", [0, 0]), ("lookup", [0, 0, 0, 0]), ("ancestry", [LONGEST, 0]), ("lookup", [LONGEST, 0, 0, 0])]
-    for bundle in make.SAMPLES.values():
-        yield answered(bundle, (SCRATCH, every_question(bundle)), (0, few), (MATRIX - 1, few), (MATRIX, few))
+    for bundle in opened_samples():
+        yield from answered(bundle, SCRATCH, every_question(bundle))
+        for scratch in [0, MATRIX - 1, MATRIX]:
+            yield from answered(bundle, scratch, few)
     long, too_long = longest()
     many = [("lookup", [f, c, c, 0]) for f in [1, FUNCTIONS - 2] for c in range(0, CLASSES, 9)]
     for bundle in [long, make.bundle(*at_limits(chain(CLASSES)))]:
-        yield answered(bundle, (SCRATCH, few + many))
+        yield from answered(bundle, SCRATCH, few + many)
     # Every call opens the bundle first, and one that does not open leaves the scratch as it was, however short it is.
     for bundle in [too_long, *(bundle for bundle, number, _ in opening_vectors(folder) if number)]:
-        yield answered(bundle, (SCRATCH, few[:2]), (MATRIX - 1, few[:2]))
+        for scratch in [SCRATCH, MATRIX - 1]:
+            yield from answered(bundle, scratch, few[:2])
+
+
+def lookup_cases(folder):
+    """ancestry answers 1 for yes and 0 for no"""
+    for bundle, scratch, kind, numbers, *answer in lookup_answers(folder):
+        held(bundle, tuple(answer), asked(bundle, scratch, kind, *numbers))
+        yield bundle, Call(kind, tuple(numbers), scratch), reply(*answer)
 
 
 def found(answer):
-    """the number beside an answer, its number and its values: the signature of a coverage reason or the steps of a run, else 0"""
+    """the reply that a vector's answer gives"""
     beside = answer.get("steps", answer.get("signature")) or 0
     number = ENDS[answer["end"]] if "end" in answer else answer["number"]
     if "tuple" in answer:
-        return beside, number, [answer["function"], *answer["tuple"], *answer["methods"]]
+        return reply(number, [answer["function"], *answer["tuple"], *answer["methods"]], beside=beside)
     if "method" in answer:
-        return beside, number, [answer["method"], answer["instruction"]]
-    return beside, number, [answer["class"]] if "class" in answer else answer.get("values", [])
+        return reply(number, [answer["method"], answer["instruction"]], beside=beside)
+    return reply(number, [answer["class"]] if "class" in answer else answer.get("values", []), beside=beside)
 
 
-def scratch_calls(folder, numbers, count=0):
-    """(bundle, [(scratch, numbers, count, beside, number, values)]) for calls that are refused for their scratch or their bundle"""
-    for bundle in make.SAMPLES.values():
-        # 19 comes before 18: the second call names what is absent.
-        yield bundle, [(MATRIX - 1, asked_for, count, 0, SHORT, []) for asked_for in [numbers, [LONGEST] * 4]] + [(0, numbers, count, 0, SHORT, [])]
-    # Every call opens the bundle first, and one that does not open leaves the scratch as it was, however short it is.
-    refusals = [(bundle, number, values) for bundle, number, values in opening_vectors(folder) if number]
-    for bundle, number, values in [*refusals, (longest()[1], 1, [])]:
-        yield bundle, [(scratch, numbers, count, 0, number, values) for scratch in [SCRATCH, MATRIX - 1]]
+def turned_away(folder, entry, numbers, count=0, rows=(0,)):
+    """calls that are refused for their scratch or their bundle, lent a row of each of these lengths"""
+
+    def refusals():
+        """(bundle, scratch, numbers, reply)"""
+        for bundle in opened_samples():
+            # 19 comes before 18: the second call names what is absent.
+            for scratch, asked_for in [(MATRIX - 1, numbers), (MATRIX - 1, [LONGEST] * len(numbers)), (0, numbers)]:
+                yield bundle, scratch, asked_for, reply(SHORT)
+        # Every call opens the bundle first, and one that does not open leaves the scratch as it was, however short it is.
+        for bundle, number, values in [*opening_vectors(folder), (longest()[1], 1, [])]:
+            if number:
+                for scratch in [SCRATCH, MATRIX - 1]:
+                    yield bundle, scratch, numbers, reply(number, values)
+
+    for bundle, scratch, asked_for, answer in refusals():
+        for row in rows:
+            yield bundle, Call(entry, tuple(asked_for), scratch, row, count), answer
 
 
-# P 7, P 8, P 10 and P 11 of document 01 and runs beside them: (bundle, numbers, count, steps, number, values)
+# P 7, P 8, P 10 and P 11, and runs beside them: (bundle, numbers, count, steps, number, values)
 RUNS = [
     ("chart-4", [0, 2, 4, 0], 1, 1, ENDS["value"], [7]),
     ("chart-4", [0, 2, 4, 0], 0, 0, ENDS["spent"], []),
@@ -530,62 +368,56 @@ def recursive_runs():
 
 
 def run_cases(folder):
-    """(bundle, [(scratch, numbers, count, beside, number, values, row afterwards)])"""
+    """the number beside is that of the steps"""
     for entry, bundle in vectors(folder, "run.jsonl"):
-        yield bundle, [rowless(SCRATCH, call["run"][:4], call["run"][4], *found(call["answer"])) for call in entry["calls"]]
-    for name, numbers, count, *answer in RUNS:
-        yield make.SAMPLES[name], [rowless(scratch, numbers, count, *answer) for scratch in [SCRATCH, MATRIX]]
-    for bundle, numbers, count, *answer in recursive_runs():
-        yield bundle, [rowless(SCRATCH, numbers, count, *answer)]
-    for bundle, calls in scratch_calls(folder, [0, 0, 0, 0], MOST):
-        yield bundle, [rowless(*call) for call in calls]
+        for call in entry["calls"]:
+            *numbers, count = call["run"]
+            yield bundle, Call("run", tuple(numbers), SCRATCH, count=count), found(call["answer"])
+    sampled = [(make.SAMPLES[name], [SCRATCH, MATRIX], *rest) for name, *rest in RUNS]
+    for bundle, lengths, numbers, count, steps, number, values in [*sampled, *((b, [SCRATCH], *rest) for b, *rest in recursive_runs())]:
+        for scratch in lengths:
+            yield bundle, Call("run", tuple(numbers), scratch, count=count), reply(number, values, beside=steps)
+    yield from turned_away(folder, "run", [0, 0, 0, 0], MOST)
 
 
-# The checks of document 01, and of the samples that break one rule each: (bundle, beside, number, values)
+# The checks that the rules name, and of the samples that break one rule each: (bundle, number, values)
 CHECKS = [
-    ("chart-3", 0, 11, [0, 2, 4, 0, 0, 1]),
-    ("chart-4", 0, 0, []),
-    ("one-class", 0, 0, []),
-    ("abstract-argument", 0, 0, []),
-    ("narrow-declared", 0, 12, [0, 0, 0, 0, 0]),
-    ("wide-result", 0, 13, [0, 0, 0, 0, 0]),
-    ("two-values", 0, 14, [0, 2]),
-    ("abstract-new", 0, 15, [0, 0]),
-    ("no-licence", 0, 16, [0, 1]),
-    ("loose-result", 0, 17, [0, 1]),
+    ("chart-3", 11, [0, 2, 4, 0, 0, 1]),
+    ("chart-4", 0, []),
+    ("one-class", 0, []),
+    ("abstract-argument", 0, []),
+    ("no-method", 10, [0, 0, 0, 0]),
+    ("three-faults", 10, [0, 0, 0, 0]),
+    ("narrow-declared", 12, [0, 0, 0, 0, 0]),
+    ("wide-result", 13, [0, 0, 0, 0, 0]),
+    ("two-values", 14, [0, 2]),
+    ("abstract-new", 15, [0, 0]),
+    ("no-licence", 16, [0, 1]),
+    ("loose-result", 17, [0, 1]),
 ]
 
 
 def check_cases(folder):
-    """(bundle, [(scratch, numbers, count, beside, number, values, row afterwards)])"""
-    nothing = [0, 0, 0, 0]
+    """the number beside is that of the signature"""
     for entry, bundle in vectors(folder, "check.jsonl"):
-        yield bundle, [rowless(SCRATCH, nothing, 0, *found(entry["answer"]))]
+        yield bundle, Call("check", scratch=SCRATCH), found(entry["answer"])
     for name, *answer in CHECKS:
-        yield make.SAMPLES[name], [rowless(scratch, nothing, 0, *answer) for scratch in [SCRATCH, MATRIX]]
-    yield without_method(), [rowless(SCRATCH, nothing, 0, 0, 10, [0, 0, 0, 0])]
-    yield most_tuples(False), [rowless(SCRATCH, nothing, 0, 0, 0, [])]
-    yield most_methods(), [rowless(SCRATCH, nothing, 0, 0, 0, [])]
+        for scratch in [SCRATCH, MATRIX]:
+            yield make.SAMPLES[name], Call("check", scratch=scratch), reply(*answer)
     # Methods that the first places tell apart, and methods that the last alone does, the general one first and last.
     last = [[0, 0, k] for k in range(CLASSES)]
-    for places in [[[i, j, 0] for i in range(22) for j in range(23)], last, last[::-1]]:
-        yield chained(places), [rowless(SCRATCH, nothing, 0, 0, 0, [])]
-    yield most_tuples(True), [rowless(SCRATCH, nothing, 0, 0, 13, [0, *[CLASSES - 1] * PLACES, 1])]
-    for bundle, calls in scratch_calls(folder, nothing):
-        yield bundle, [rowless(*call) for call in calls]
+    for bundle, *answer in [
+        (without_method(), 10),
+        (most_tuples(False), 0),
+        (most_methods(), 0),
+        *((chained(places), 0) for places in [[[i, j, 0] for i in range(22) for j in range(23)], last, last[::-1]]),
+        (most_tuples(True), 13, [0, *[CLASSES - 1] * PLACES, 1]),
+    ]:
+        yield bundle, Call("check", scratch=SCRATCH), reply(*answer)
+    yield from turned_away(folder, "check", [])
 
 
-def filled_row(length):
-    """a row as it is before a call: no byte of it is 0 or 1"""
-    return bytes(2 + k % 251 for k in range(length))
-
-
-def typed_row(length, classes):
-    """a row as it is after a call that answers"""
-    return bytes(int(c in classes) for c in range(CLASSES)) + filled_row(length)[CLASSES:]
-
-
-# P 9 of document 01 and sends beside it: (bundle, numbers, number, classes)
+# P 9, and sends beside it: (bundle, numbers, number, classes)
 SEND_TYPES = [
     ("chart-5", [0, 2, 4, 0], 0, [0, 5, 7]),
     # Only one of the two signatures licenses it.
@@ -598,167 +430,124 @@ SEND_TYPES = [
 
 
 def send_type_cases(folder):
-    """(bundle, [(scratch, numbers, count, beside, number, values, row afterwards)])"""
+    """the row: 1 for each class of the type, 0 for the others"""
 
-    def call(length, numbers, number, classes):
-        if length < CLASSES:
+    def asked_for(bundle, row, numbers, number, classes):
+        call = Call("send type", tuple(numbers), SCRATCH, row)
+        if row < CLASSES:
             # 20 comes before 18 and 16.
-            return SCRATCH, numbers, 0, 0, SHORT_ROW, [], filled_row(length)
-        return SCRATCH, numbers, 0, 0, number, [], filled_row(length) if number else typed_row(length, classes)
+            return bundle, call, reply(SHORT_ROW)
+        if number:
+            return bundle, call, reply(number)
+        return bundle, call, reply(0, written=bytes(c in classes for c in range(max(classes) + 1)), zeros_to=CLASSES)
 
     for entry, bundle in vectors(folder, "sendtype.jsonl"):
-        questions = [(asked_for["sendtype"], asked_for["answer"]["number"], asked_for["row"]) for asked_for in entry["calls"]]
-        yield bundle, [call(ROW, *question) for question in questions] + [call(CLASSES - 1, *questions[0])]
+        questions = [(call["sendtype"], call["answer"]["number"], call["row"]) for call in entry["calls"]]
+        for question in questions:
+            yield asked_for(bundle, ROW, *question)
+        yield asked_for(bundle, CLASSES - 1, *questions[0])
     for name, *question in SEND_TYPES:
-        yield make.SAMPLES[name], [call(length, *question) for length in [ROW, CLASSES, CLASSES - 1, 0]]
-    for bundle, calls in scratch_calls(folder, [0, 0, 0, 0]):
-        # 1 to 9 and 19 come before 20.
-        yield bundle, [(*refused_call, filled_row(length)) for refused_call in calls for length in [ROW, CLASSES - 1]]
+        for row in [ROW, CLASSES, CLASSES - 1, 0]:
+            yield asked_for(make.SAMPLES[name], row, *question)
+    # 1 to 9 and 19 come before 20.
+    yield from turned_away(folder, "send type", [0, 0, 0, 0], rows=(ROW, CLASSES - 1))
 
 
-# Witness checks of the samples: (bundle, numbers, beside, number, values)
+# Witness checks of the samples: (bundle, numbers, number, values)
 WITNESSES = [
-    ("chart-3", [0, 2, 4, 0], 0, 11, [0, 2, 4, 0, 0, 1]),
-    ("chart-3", [0, 1, 4, 0], 0, 0, []),
-    ("chart-4", [0, 2, 4, 0], 0, 0, []),
-    ("chart-5", [1, 2, 4, 0], 0, 0, []),
+    ("chart-3", [0, 2, 4, 0], 11, [0, 2, 4, 0, 0, 1]),
+    ("chart-3", [0, 1, 4, 0], 0, []),
+    ("chart-4", [0, 2, 4, 0], 0, []),
+    ("chart-5", [1, 2, 4, 0], 0, []),
     # Not covered; absent; unused and not 0; abstract.
-    ("chart-5", [1, 1, 4, 0], 0, ABSENT, []),
-    ("chart-5", [2, 2, 4, 0], 0, ABSENT, []),
-    ("chart-5", [0, 2, 4, 1], 0, ABSENT, []),
-    ("abstract-argument", [0, 0, 0, 0], 0, ABSENT, []),
-    ("abstract-argument", [0, 1, 0, 0], 0, 0, []),
-    ("narrow-declared", [0, 0, 0, 0], 0, 12, [0, 0, 0, 0, 0]),
-    ("narrow-declared", [0, 1, 0, 0], 0, 0, []),
-    ("wide-result", [0, 0, 0, 0], 0, 13, [0, 0, 0, 0, 0]),
+    ("chart-5", [1, 1, 4, 0], ABSENT, []),
+    ("chart-5", [2, 2, 4, 0], ABSENT, []),
+    ("chart-5", [0, 2, 4, 1], ABSENT, []),
+    ("abstract-argument", [0, 0, 0, 0], ABSENT, []),
+    ("abstract-argument", [0, 1, 0, 0], 0, []),
+    ("narrow-declared", [0, 0, 0, 0], 12, [0, 0, 0, 0, 0]),
+    ("narrow-declared", [0, 1, 0, 0], 0, []),
+    ("wide-result", [0, 0, 0, 0], 13, [0, 0, 0, 0, 0]),
 ]
 
 
 def witness_cases(folder):
-    """(bundle, [(scratch, numbers, count, beside, number, values, row afterwards)])"""
+    """the number beside is that of the signature"""
     for entry, bundle in vectors(folder, "witness.jsonl"):
-        yield bundle, [rowless(SCRATCH, call["witness"], 0, *found(call["answer"])) for call in entry["calls"]]
+        for call in entry["calls"]:
+            yield bundle, Call("witness", tuple(call["witness"]), SCRATCH), found(call["answer"])
     for name, numbers, *answer in WITNESSES:
-        yield make.SAMPLES[name], [rowless(scratch, numbers, 0, *answer) for scratch in [SCRATCH, MATRIX]]
-    for bundle, calls in scratch_calls(folder, [0, 0, 0, 0]):
-        yield bundle, [rowless(*call) for call in calls]
+        for scratch in [SCRATCH, MATRIX]:
+            yield make.SAMPLES[name], Call("witness", tuple(numbers), scratch), reply(*answer)
+    yield from turned_away(folder, "witness", [0, 0, 0, 0])
 
 
 def listing_cases(folder):
-    """(bundle, [(scratch, numbers, count, beside, number, values, row afterwards)]): the row is the buffer for the text"""
+    """the row is the buffer: longer than the text, as long, and a byte shorter"""
     texts = [(bundle, entry["listing"].encode()) for entry, bundle in vectors(folder, "check.jsonl")]
     texts += [(path.read_bytes(), path.with_suffix(".listing").read_bytes()) for path in sorted((ROOT / "bundles").glob("*.bundle"))]
     # Input of any length beyond the longest is refused like a bundle of one byte more.
     texts += [(bytes(LONGEST + 1), b"refused 1\n"), (b"", b"refused 1\n")]
     for bundle, text in texts:
-        longer = text + filled_row(ROW)[len(text):]
-        yield bundle, [
-            (SCRATCH, [0, 0, 0, 0], 0, 0, *answer)
-            for answer in [(0, [len(text)], longer), (0, [len(text)], text), (SHORT_TEXT, [], filled_row(len(text) - 1))]
-        ]
+        for row in [ROW, len(text)]:
+            yield bundle, Call("listing", row=row), reply(0, [len(text)], written=text)
+        yield bundle, Call("listing", row=len(text) - 1), reply(SHORT_TEXT)
 
 
-def rowless(scratch, numbers, count, beside, number, values):
-    """a call that is lent no row"""
-    return scratch, numbers, count, beside, number, values, b""
+def accepted_runs(bundle, calls):
+    """(call, reply) for each run of the bundle, where the verdict of its check is known"""
+    verdict = calls.get(Call("check", scratch=SCRATCH))
+    for call, ran in list(calls.items()):
+        if call.entry != "run" or verdict is None:
+            continue
+        accepted = call._replace(entry="accepted run")
+        # Refusals of the run call come first, then what the check found.
+        if ran.number < 10 or ran.number in (ABSENT, SHORT):
+            yield accepted, ran
+        elif verdict.number:
+            yield accepted, verdict
+        elif not is_covered(bundle, *call.numbers):
+            yield accepted, reply(NOT_COVERED)
+        else:
+            held(bundle, ran.number in ENDS.values(), True)
+            yield accepted, ran
 
 
-def little_endian(width, *numbers):
-    return b"".join(n.to_bytes(width, "little") for n in numbers)
-
-
-def held(bundle, answer, second):
-    """stops where an expected answer is not the one that the rules give"""
-    if answer != second:
-        sys.exit(f"answers differ: {answer} expected, {second} by the rules, for the bundle {bundle.hex()[:200]}")
-
-
-def expected(number, values):
-    """an answer as a case has it: the number, and six values filled up with zeros"""
-    return bytes([number]) + little_endian(2, *values, *[0] * (6 - len(values)))
-
-
-def opening_stream(folder):
-    stream, count = b"", 0
-    for bundle, number, values in opening_cases(folder):
-        held(bundle, (number, values), opening(bundle))
-        stream += little_endian(3, len(bundle)) + bundle + expected(number, values)
-        count += 1
-    return stream, count
-
-
-def lookup_stream(folder):
-    stream, count = b"", 0
-    for bundle, calls in lookup_cases(folder):
-        stream += little_endian(3, len(bundle)) + bundle + little_endian(2, len(calls))
-        for scratch, kind, numbers, number, values in calls:
-            held(bundle, (number, values), asked(bundle, scratch, kind, *numbers))
-            stream += bytes([kind == "lookup"]) + little_endian(2, scratch, *numbers, *[0] * (4 - len(numbers))) + expected(number, values)
-            count += 1
-    return stream, count
-
-
-def call_stream(cases, opens=True):
-    """cases: (bundle, [(scratch, numbers, count, beside, number, values, row afterwards)]); opens: the call answers by the number of its opening"""
-    stream, count_of_calls = [], 0
-    for bundle, calls in cases:
+def all_cases(folder):
+    """from each bundle to its calls, and from each call to its reply; a call that comes again has to have the same reply"""
+    cases, repeats = {}, 0
+    for bundle, call, answer in itertools.chain.from_iterable(
+        made(folder) for made in [
+            opening_cases, view_cases, reader_cases, lookup_cases, send_type_cases, check_cases, witness_cases, run_cases, listing_cases]):
         opened = opening(bundle)
-        stream += little_endian(3, len(bundle)), bundle, little_endian(2, len(calls))
-        for scratch, numbers, count, beside, number, values, row in calls:
-            if opens and (opened[0] or 0 < number < 10):
-                held(bundle, (number, values), opened)
-            stream += little_endian(2, scratch, len(row), *numbers), little_endian(4, count, beside), expected(number, values), row
-            count_of_calls += 1
-    return b"".join(stream), count_of_calls
-
-
-def view_stream(folder):
-    stream, count = b"", 0
-    for bundle, calls in view_cases(folder):
-        stream += little_endian(3, len(bundle)) + bundle + little_endian(2, len(calls))
-        for method, *answer in calls:
-            held(bundle, tuple(answer), view(bundle, method))
-            number, start, length = answer
-            stream += little_endian(2, method) + bytes([number]) + little_endian(3, start) + little_endian(2, length)
-            count += 1
-    return stream, count
-
-
-def reader_stream(folder):
-    stream, count = [], 0
-    for bundle, calls in reader_cases(folder):
-        stream += little_endian(3, len(bundle)), bundle, little_endian(2, len(calls))
-        for raw, method, position, number, values in calls:
-            if not raw:
-                held(bundle, (number, values), instruction(bundle, method, position))
-            stream += bytes([raw]), little_endian(2, method), little_endian(8, position), expected(number, values)
-            count += 1
-    return b"".join(stream), count
+        if call.entry in SCRATCHED and (opened[0] or 0 < answer.number < 10):
+            held(bundle, answer, reply(*opened))
+        calls = cases.setdefault(bundle, {})
+        repeats += call in calls
+        held(bundle, calls.setdefault(call, answer), answer)
+    for bundle, calls in cases.items():
+        calls.update(accepted_runs(bundle, calls))
+    return cases, repeats
 
 
 def main():
+    if len(sys.argv) == 3 and sys.argv[1] == "one":
+        case, said = one(sys.stdin.buffer.read(), int(sys.argv[2]))
+        print(said, file=sys.stderr)
+        sys.exit(sys.stdout.buffer.write(case) != len(case))
     folders = [argument for argument in sys.argv[1:] if argument != "--check"]
     if len(folders) != 1:
         sys.exit(__doc__)
-    folder = pathlib.Path(folders[0])
-    wanted = {}
-    for name, (stream, count) in [
-        ("opening", opening_stream(folder)),
-        ("view", view_stream(folder)),
-        ("reader", reader_stream(folder)),
-        ("lookup", lookup_stream(folder)),
-        ("run", call_stream(run_cases(folder))),
-        ("check", call_stream(check_cases(folder))),
-        ("send type", call_stream(send_type_cases(folder))),
-        ("witness", call_stream(witness_cases(folder))),
-        ("listing", call_stream(listing_cases(folder), opens=False)),
-    ]:
-        crate = ROOT / "crates" / f"{name.replace(' ', '_')}_cases"
-        wanted[crate / "stdin"] = stream
-        wanted[crate / "stdout"] = f"{name} cases {count} differing 0\n".encode()
+    cases, repeats = all_cases(pathlib.Path(folders[0]))
+    crate = ROOT / "crates" / "call_cases"
+    wanted = {
+        crate / "stdin": stream_of(cases),
+        crate / "stdout": tally(cases),
+    }
     # The program itself is run on one of the samples.
     for name, ending in [("stdin", ".bundle"), ("stdout", ".listing")]:
         wanted[ROOT / "crates" / "listing" / name] = (ROOT / "bundles" / "chart-3").with_suffix(ending).read_bytes()
+    print(f"{len(cases)} bundles, {sum(map(len, cases.values()))} cases, {repeats} repeats left out", file=sys.stderr)
     sys.exit(write_or_check(ROOT, wanted, "--check" in sys.argv[1:]))
 
 

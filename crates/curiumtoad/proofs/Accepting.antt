@@ -1,42 +1,45 @@
 -- A run of an accepted bundle: from an accepted check and a run that was answered to a covered opening send and a sound end.
 -- Assumes nothing.
-use Prim.Native.Nat.{ℕ, _<_}
+use Prim.Native.Nat.{ℕ}
 use mathlib.Core.Path.{_≡_, refl, sym, ap, _∙_}
 use mathlib.Core.Bool.{Bool, true, false, _&&_, false≢true}
-use mathlib.Core.List.{List, [], _∷_}
-use lib.Dec.{leb, eqb}
+use mathlib.Core.List.{List}
+use lib.Dec.{eqb}
 use lib.ListN.{length}
 use borrow.Author.Tests.{leb-true, eqb-true, eq-eqb}
 use Rattle.rules.specs.Bounded.{upto, any, every}
-use Rattle.rules.specs.Layout.{Answer, gives, refuses, opening, require}
+use Rattle.rules.specs.Layout.{gives, require}
 use Rattle.rules.specs.Model.{Model, modelOf}
 use Rattle.rules.specs.Coverage.{covers, concreteClass, verdictNaming}
 use Rattle.rules.specs.Machine as rules
 use Rattle.rules.specs.Calls.{scratchBytes, sendRule, used, runIn, runCall, checkCallNaming, scratchAfter}
 use Rattle.rules.specs.Sound.{Covering, SoundEnding}
 use Rattle.rules.proofs.Lists.{and-left, and-right, and-both, any-mem, any-from, upto-below, below-upto}
-use Rattle.layout.specs.declared.finding.Opening.{Opening}
-use Rattle.layout.specs.Opening.{Opens, said, saidOf}
-use Rattle.layout.specs.declared.finding.Opening.the-variants as opened-answer
-use Rattle.layout.specs.declared.finding.LayoutFinding.{LayoutFinding}
-use Rattle.layout.specs.declared.finding.LayoutFinding.the-variants as finding
-use Rattle.dispatch.specs.Matrix.{Filled}
+use Rattle.bundle_rules.specs.Opening.{Opens, said, saidOf}
+use Rattle.bundle_rules.specs.declared.finding.Opening.the-variants as opened-answer
+use Rattle.bundle_rules.specs.declared.finding.LayoutFinding.{LayoutFinding}
+use Rattle.bundle_rules.specs.declared.finding.LayoutFinding.the-variants as finding
+use Rattle.layout.specs.Opened.{Opened}
+use Rattle.layout.specs.declared.bundle.Bundle.{Bundle}
+use Rattle.dispatch.specs.Prepared.{Prepared}
 use Rattle.dispatch.proofs.Entry.{filled-whole}
 use Rattle.machine.specs.declared.ending.Ending.{Ending}
 use Rattle.machine.specs.declared.ending.Ending.the-variants as ending
-use Rattle.machine.specs.declared.ending.Outcome.{Outcome}
-use Rattle.machine.specs.Endings.{endingOf, outcomeOf}
-use Rattle.curiumtoad.specs.declared.check.Finding.{Finding}
-use Rattle.curiumtoad.specs.declared.check.Verdict.{Verdict}
-use Rattle.curiumtoad.specs.declared.check.Verdict.the-variants as verdict
-use Rattle.curiumtoad.specs.declared.run.RunAnswer.{RunAnswer}
-use Rattle.curiumtoad.specs.declared.run.RunAnswer.the-variants as run
+use Rattle.machine.specs.declared.run.Outcome.{Outcome}
+use Rattle.machine.specs.Endings.{endingOf}
+use Rattle.machine.specs.Outcome.{outcomeOf}
+use Rattle.calls.specs.declared.check.Finding.{Finding}
+use Rattle.calls.specs.declared.check.Verdict.{Verdict}
+use Rattle.calls.specs.declared.check.Verdict.the-variants as verdict
+use Rattle.calls.specs.declared.run.RunAnswer.{RunAnswer}
+use Rattle.calls.specs.declared.run.RunAnswer.the-variants as run
 use Rattle.curiumtoad.specs.declared.run_accepted.AcceptedRun.{AcceptedRun}
 use Rattle.curiumtoad.specs.declared.run_accepted.AcceptedRun.the-variants as accepted
-use Rattle.curiumtoad.specs.Said.{verdictSaid, runSaid}
+use Rattle.calls.specs.Said.{verdictSaid, runSaid}
 use Rattle.curiumtoad.specs.Checked.{Checks}
 use Rattle.curiumtoad.specs.Alike.{CoveredOpening, SoundAnswer, JudgedAlike}
-use Rattle.curiumtoad.specs.Accepted.{coversSend, Unstopped, Ends, SoundEnd, Accepts}
+use Rattle.calls.specs.Covered.{coversSend}
+use Rattle.curiumtoad.specs.Accepted.{Unstopped, Ends, SoundEnd, Accepts}
 use Rattle.curiumtoad.proofs.Called.{scratch-filled}
 use Rattle.curiumtoad.proofs.Judging.{Given, given}
 
@@ -52,18 +55,14 @@ accepted-opens b n f c o = never f (o .answer ∙ accepted-given b n c .1 .opens
     never finding.Size e = false≢true (cc)
     never finding.Directory e = false≢true (cc)
     never finding.Limits e = false≢true (cc)
-    never (finding.Class k) e = false≢true (cc)
-    never (finding.Function k) e = false≢true (cc)
-    never (finding.Signature k) e = false≢true (cc)
-    never (finding.Method k) e = false≢true (cc)
-    never (finding.Twin k) e = false≢true (cc)
-    never (finding.Code k) e = false≢true (cc)
+    never (finding.Record rule k) e = false≢true (cc)
 
-pub accepted-filled : (b scratch : List ℕ) {after : List ℕ} → Checks b (length scratch) verdict.Accepted → after ≡ scratchAfter b scratch → Filled (modelOf b) after
-accepted-filled b scratch c q =
+pub accepted-prepared : (b scratch : List ℕ) {after : List ℕ} {t : Bundle} → Checks b (length scratch) verdict.Accepted → Opened b t
+    → after ≡ scratchAfter b scratch → Prepared b t after
+accepted-prepared b scratch c o q =
     let g = accepted-given b (length scratch) c .1 in
     let long = leb-true scratchBytes (length scratch) (g .enough) in
-    rw (q, scratch-filled b scratch (g .counts) (g .opens) long) (filled-whole (modelOf b) scratch long)
+    record { opened = o; filled = rw (q, scratch-filled b scratch (g .counts) (g .opens) long) (filled-whole (modelOf b) scratch long) }
 
 -- a run that is answered kept the rule of its send
 answered-rule : (b : List ℕ) (n f : ℕ) (tuple : List ℕ) (count : ℕ) {o : rules.Outcome} → runCall b n f tuple count ≡ gives o
@@ -117,9 +116,9 @@ unfolding endingOf
 unstopped M f args (ending.Value c) s = tt
 unstopped M f args ending.Spent s = tt
 unstopped M f args ending.Deep s = tt
-unstopped M f args (ending.Missing g x y z) s = s
-unstopped M f args (ending.Ambiguous g x y z m n) s = s
-unstopped M f args (ending.Declared g x y z m) s = s
+unstopped M f args (ending.Missing x) s = s
+unstopped M f args (ending.Ambiguous x m n) s = s
+unstopped M f args (ending.Declared x m) s = s
 unstopped M f args (ending.Values m at) s = s
 unstopped M f args (ending.Abstract m at) s = s
 

@@ -2,44 +2,40 @@
 -- Assumes nothing.
 use Prim.Native.Nat.{ℕ, _≤_, _<_}
 use mathlib.Core.Path.{_≡_, refl, sym, ap, _∙_}
-use mathlib.Core.Bool.{Bool, true, false, _&&_, and-false}
-use mathlib.Core.Logic.{_⊎_, inl, inr}
-use mathlib.Core.List.{List, [], _∷_}
+use mathlib.Core.List.{List, []}
 use lib.Dec.{leb, ltb}
 use lib.ListN.{length, getD}
 use borrow.Author.Tests.{lt-ltb, le-ltb, le-leb, lt-leb}
 use Rattle.rules.specs.Layout.{Answer, gives, refuses, opening, require, codeOf}
 use Rattle.rules.specs.Model.{Model, modelOf}
-use Rattle.rules.specs.Subclass.{subclass}
 use Rattle.rules.specs.Types.{Static}
-use Rattle.rules.specs.Calls.{scratchBytes, onOpening, whenOpen, withScratch, bodyViewCall, ancestryIn, overwrite, matrixByte, scratchOn, scratchAfter, rowOn}
-use Rattle.layout.specs.declared.finding.LayoutFinding.{LayoutFinding}
-use Rattle.layout.specs.declared.finding.LayoutFinding.the-variants as finding
-use Rattle.layout.specs.declared.finding.Opening.the-variants as answer
+use Rattle.rules.specs.Calls.{scratchBytes, onOpening, whenOpen, withScratch, bodyViewCall, overwrite, matrixByte, scratchOn, scratchAfter, rowOn}
+use Rattle.bundle_rules.specs.declared.finding.LayoutFinding.{LayoutFinding}
+use Rattle.bundle_rules.specs.declared.finding.LayoutFinding.the-variants as finding
+use Rattle.bundle_rules.specs.declared.finding.Opening.the-variants as answer
 use Rattle.layout.specs.declared.bundle.Bundle.{Bundle}
-use Rattle.layout.specs.Opening.{said, saidOf, Opens}
+use Rattle.bundle_rules.specs.Opening.{saidOf, Opens}
 use Rattle.layout.specs.Opened as layout-opened
-use Rattle.layout.proofs.Opened.{counts-of, opened-of}
-use Rattle.dispatch.specs.Matrix.{Filled}
+use Rattle.layout.proofs.Opened.{counts-of}
+use Rattle.bundle_rules.proofs.Opened.{opened-of}
+use Rattle.dispatch.specs.Prepared.{Prepared}
 use Rattle.dispatch.proofs.Entry.{filled-whole}
-use Rattle.curiumtoad.specs.declared.refusal.Refusal.{Refusal}
-use Rattle.curiumtoad.specs.declared.refusal.Refusal.the-variants as refusal
-use Rattle.curiumtoad.specs.declared.prepare.Prepared.the-variants as prepared
-use Rattle.curiumtoad.specs.Prepared.{Prepares, refusalSaid}
-use Rattle.curiumtoad.specs.Said.{blank}
-use Rattle.curiumtoad.specs.Refusal.{numberOf, valuesOf, recordOf}
+use Rattle.calls.specs.declared.refusal.Refusal.{Refusal}
+use Rattle.calls.specs.declared.refusal.Refusal.the-variants as refusal
+use Rattle.curiumtoad.specs.declared.prepare.Early.{Early}
+use Rattle.curiumtoad.specs.declared.prepare.Early.the-variants as early
+use Rattle.curiumtoad.specs.declared.prepare.Preparation.{Preparation}
+use Rattle.curiumtoad.specs.declared.prepare.Preparation.the-variants as prepared
+use Rattle.curiumtoad.specs.Preparation.{Prepares, asRefusal, EarlyAs}
+use Rattle.calls.specs.Said.{blank, refusalSaid}
+use Rattle.calls.specs.Answers.{numberOf, valuesOf, recordOf}
 
 -- a layout finding is a number with its values
 pub layout-refuses : (f : LayoutFinding) → saidOf f ≡ refuses (numberOf (saidOf f)) (valuesOf (saidOf f))
 layout-refuses finding.Size = refl
 layout-refuses finding.Directory = refl
 layout-refuses finding.Limits = refl
-layout-refuses (finding.Class k) = refl
-layout-refuses (finding.Function k) = refl
-layout-refuses (finding.Signature k) = refl
-layout-refuses (finding.Method k) = refl
-layout-refuses (finding.Twin k) = refl
-layout-refuses (finding.Code k) = refl
+layout-refuses (finding.Record rule k) = refl
 
 module _ {A : Type 0} (b : List ℕ) (call : Model → Answer A) where
   -- a layout refusal is the call's answer
@@ -60,12 +56,7 @@ pub first-value : (f : LayoutFinding) → recordOf (saidOf f) ≡ getD (valuesOf
 first-value finding.Size = refl
 first-value finding.Directory = refl
 first-value finding.Limits = refl
-first-value (finding.Class k) = refl
-first-value (finding.Function k) = refl
-first-value (finding.Signature k) = refl
-first-value (finding.Method k) = refl
-first-value (finding.Twin k) = refl
-first-value (finding.Code k) = refl
+first-value (finding.Record rule k) = refl
 
 -- A call that takes a method and no scratch: 18 where the method is absent, else what it says of the model.
 module _ {A : Type 0} (b : List ℕ) (m : ℕ) (call : Model → Answer A) where
@@ -113,14 +104,16 @@ scratch-filled b scratch counts o h = rw (o, le-leb scratchBytes (length scratch
 
 -- A call that takes scratch: its refusal, or its own rules.
 module _ {A : Type 0} (b scratch : List ℕ) (call : Model → Answer A) where
-  pub not-prepared : (r : Refusal) → Prepares b scratch (prepared.Refused r) → withScratch b (length scratch) call ≡ refusalSaid r
+  pub not-prepared : (e : Early) → Prepares b scratch (prepared.Refused e) → withScratch b (length scratch) call ≡ refusalSaid (asRefusal e)
   unfolding withScratch require
-  not-prepared (refusal.Layout f) o = not-opened b (λ M. require (leb scratchBytes (length scratch)) 19 (call M)) f (record { answer = o; tables = tt })
-  not-prepared refusal.Scratch (counts, o, h) =
+  not-prepared (early.Layout f) o = not-opened b (λ M. require (leb scratchBytes (length scratch)) 19 (call M)) f (record { answer = o; tables = tt })
+  not-prepared early.Scratch (counts, o, h) =
       opened-call b (λ M. require (leb scratchBytes (length scratch)) 19 (call M)) counts o
       ∙ rw (lt-leb scratchBytes (length scratch) h)
-  not-prepared refusal.Row o = absurd o
-  not-prepared refusal.Absent o = absurd o
+
+  -- the same of what `prepare` and `refusal` answer
+  pub refused-call : {p : Preparation} {r : Refusal} → Prepares b scratch p → EarlyAs p r → withScratch b (length scratch) call ≡ refusalSaid r
+  refused-call h e = rw (e .same) (not-prepared (e .early) (rw (e .unprepared) at h))
 
   pub when-prepared : {t : Bundle} → Prepares b scratch (prepared.Ready t) → withScratch b (length scratch) call ≡ call (modelOf b)
   unfolding withScratch require
@@ -128,22 +121,13 @@ module _ {A : Type 0} (b scratch : List ℕ) (call : Model → Answer A) where
       opened-call b (λ M. require (leb scratchBytes (length scratch)) 19 (call M)) counts e
       ∙ rw (le-leb scratchBytes (length scratch) h)
 
--- the matrix that a prepared call finds in the scratch
-pub prepared-filled : (b scratch : List ℕ) {after : List ℕ} {t : Bundle} → Prepares b scratch (prepared.Ready t) → after ≡ scratchAfter b scratch → Filled (modelOf b) after
-prepared-filled b scratch (layout-opened.opened counts e tables, h) q =
-    rw (q, scratch-filled b scratch counts e h) (filled-whole (modelOf b) scratch h)
-
--- The ancestry question's own rules.
-module _ {b : List ℕ} {t : Bundle} (o : layout-opened.Opened b t) (a c : ℕ) where
-  pub ancestry-absent : (t .classes ≤ a) ⊎ (t .classes ≤ c) → refuses 18 [] ≡ ancestryIn a c (modelOf b)
-  unfolding ancestryIn require
-  ancestry-absent (inl h) = rw (le-ltb a (modelOf b .classes) (rw (sym (counts-of o .classes)) h))
-  ancestry-absent (inr h) = rw (le-ltb c (modelOf b .classes) (rw (sym (counts-of o .classes)) h), and-false)
-
-  pub ancestry-answered : a < t .classes → c < t .classes → gives (subclass (modelOf b) a c) ≡ ancestryIn a c (modelOf b)
-  unfolding ancestryIn require
-  ancestry-answered h k =
-      rw (lt-ltb a (modelOf b .classes) (rw (sym (counts-of o .classes)) h), lt-ltb c (modelOf b .classes) (rw (sym (counts-of o .classes)) k))
+-- what a prepared call has
+pub prepared-by : (b scratch : List ℕ) {after : List ℕ} {t : Bundle} → Prepares b scratch (prepared.Ready t) → after ≡ scratchAfter b scratch → Prepared b t after
+prepared-by b scratch (layout-opened.opened counts e tables, h) q =
+    record {
+      opened = layout-opened.opened counts e tables;
+      filled = rw (q, scratch-filled b scratch counts e h) (filled-whole (modelOf b) scratch h);
+    }
 
 -- a refusal has no values of its own, and leaves the row as it was
 pub refusal-blank : (r : Refusal) → blank (refusalSaid {A = Static} r) ≡ refusalSaid r

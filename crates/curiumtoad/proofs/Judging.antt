@@ -1,29 +1,26 @@
 -- Soundness about the answers of two calls, from the theorem over the definitions and the contracts of the two.
 -- Assumes nothing.
-use Prim.Native.Nat.{ℕ, _≤_}
-use mathlib.Core.Path.{_≡_, refl, sym, ap, _∙_}
-use mathlib.Core.Bool.{Bool, true, false, _&&_, false≢true, cond}
-use mathlib.Core.List.{List, [], _∷_, _++_, map}
+use Prim.Native.Nat.{ℕ}
+use mathlib.Core.Path.{_≡_, refl, sym, _∙_}
+use mathlib.Core.Bool.{Bool, true, false, false≢true, cond}
+use mathlib.Core.List.{List, []}
 use lib.Dec.{leb}
-use lib.ListN.{length, drop}
-use Rattle.rules.specs.Bounded.{every, upto}
+use lib.ListN.{length}
 use Rattle.rules.specs.Layout.{Answer, gives, refuses, opening, require}
 use Rattle.rules.specs.Model.{Model, modelOf}
-use Rattle.rules.specs.Coverage.{concreteClass, verdictNaming, firstBroken, brokenSignature, verdict}
-use Rattle.rules.specs.Machine.{Outcome, run}
-use Rattle.rules.specs.Calls.{scratchBytes, onOpening, whenOpen, withScratch, sendRule, used, runIn, runCall, checkCallNaming, overwrite, matrixByte, scratchOn, scratchAfter}
-use Rattle.rules.specs.Sound.{Covering, SoundRun}
+use Rattle.rules.specs.Coverage.{verdictNaming, firstBroken, brokenSignature, verdict}
+use Rattle.rules.specs.Machine.{run}
+use Rattle.rules.specs.Calls.{scratchBytes, onOpening, whenOpen, withScratch, used, runIn, runCall, checkCallNaming, overwrite, matrixByte, scratchOn, scratchAfter}
 use Rattle.rules.proofs.Coverage.{Acceptable, accepted-acceptable, acceptable-accepted}
 use Rattle.rules.proofs.Sound.{demand-3}
 use Rattle.rules.proofs.Overwrite.{overwrite-length}
-use Rattle.typing.proofs.Writing.{overwrite-twice}
-use Rattle.rules.proofs.Lists.{test, and-both}
+use Rattle.rules.proofs.Overwrite.{overwrite-twice}
 use borrow.Author.Tests.{leb-true, le-leb}
-use Rattle.curiumtoad.specs.declared.check.Verdict.{Verdict}
-use Rattle.curiumtoad.specs.declared.run.RunAnswer.{RunAnswer}
-use Rattle.curiumtoad.specs.Said.{verdictSaid, runSaid}
+use Rattle.calls.specs.declared.check.Verdict.{Verdict}
+use Rattle.calls.specs.declared.run.RunAnswer.{RunAnswer}
+use Rattle.calls.specs.Said.{runSaid}
 use Rattle.curiumtoad.specs.Checked.{Checks}
-use Rattle.curiumtoad.specs.Alike.{CoveredOpening, SoundAnswer, JudgedAlike, CallsJudgeAlike}
+use Rattle.curiumtoad.specs.Alike.{CoveredOpening, JudgedAlike, CallsJudgeAlike}
 
 -- a call over scratch that gives something had an opened bundle and scratch enough
 pub record Given {A : Type 0} (b : List ℕ) (scratch : ℕ) (call : Model → Answer A) (x : A) : Type 0 where

@@ -1,5 +1,4 @@
 pub mod Called
-pub mod Sent
 pub mod Checking
 pub mod Judging
 pub mod Accepting

@@ -2,39 +2,32 @@
 -- Assumes nothing.
 use Prim.Native.Nat.{ℕ}
 use mathlib.Core.Path.{_≡_}
-use mathlib.Core.Bool.{Bool, _&&_}
 use mathlib.Core.List.{List}
-use lib.Dec.{eqb}
-use Rattle.rules.specs.Layout.{Answer, gives}
-use Rattle.rules.specs.Model.{Model, modelOf}
-use Rattle.rules.specs.Coverage.{covers}
+use Rattle.rules.specs.Layout.{gives}
+use Rattle.rules.specs.Model.{modelOf}
 use Rattle.rules.specs.Machine as rules
 use Rattle.rules.specs.Calls.{used, runCall}
 use Rattle.rules.specs.Sound.{Covering, SoundEnding}
 use Rattle.machine.specs.declared.ending.Ending.the-variants as ending
 use Rattle.machine.specs.declared.ending.Ending as ending-type
-use Rattle.curiumtoad.specs.declared.refusal.Refusal.{Refusal}
-use Rattle.curiumtoad.specs.declared.check.Verdict.the-variants as verdict
-use Rattle.curiumtoad.specs.declared.run.RunAnswer as run-type
-use Rattle.curiumtoad.specs.declared.run.RunAnswer.the-variants as run
+use Rattle.calls.specs.declared.refusal.Refusal.{Refusal}
+use Rattle.calls.specs.declared.check.Verdict.the-variants as verdict
+use Rattle.calls.specs.declared.run.RunAnswer as run-type
+use Rattle.calls.specs.declared.run.RunAnswer.the-variants as run
 use Rattle.curiumtoad.specs.declared.run_accepted.AcceptedRun as accepted-type
 use Rattle.curiumtoad.specs.declared.run_accepted.AcceptedRun.the-variants.{Value, Spent, Deep, NotAccepted, NotCovered, Refused}
-use Rattle.curiumtoad.specs.Prepared.{refusalSaid}
+use Rattle.calls.specs.Said.{refusalSaid}
 use Rattle.curiumtoad.specs.Checked.{Checks}
 use Rattle.curiumtoad.specs.Alike.{CoveredOpening, SoundAnswer}
-
--- signature s is one of function f and covers the arguments
-unfoldable pub coversSend : Model → ℕ → List ℕ → ℕ → Bool
-coversSend M f args s = eqb (M .sigFunction s) f && covers M s args
 
 -- a run that no number stopped: Spent, Deep or a value
 abbrev pub Unstopped : ending-type.Ending → Type 0
 Unstopped (ending.Value c) = Unit {0}
 Unstopped ending.Spent = Unit {0}
 Unstopped ending.Deep = Unit {0}
-Unstopped (ending.Missing f x y z) = ⊥
-Unstopped (ending.Ambiguous f x y z m n) = ⊥
-Unstopped (ending.Declared f x y z m) = ⊥
+Unstopped (ending.Missing s) = ⊥
+Unstopped (ending.Ambiguous s m n) = ⊥
+Unstopped (ending.Declared s m) = ⊥
 Unstopped (ending.Values m at) = ⊥
 Unstopped (ending.Abstract m at) = ⊥
 

@@ -11,9 +11,9 @@ use Rattle.rules.specs.Coverage.{concreteClass}
 use Rattle.rules.specs.Machine.{Outcome, run}
 use Rattle.rules.specs.Calls.{scratchBytes, sendRule, used, runCall}
 use Rattle.rules.specs.Sound.{Covering, SoundRun}
-use Rattle.curiumtoad.specs.declared.check.Verdict as verdict-type
-use Rattle.curiumtoad.specs.declared.run.RunAnswer as run-type
-use Rattle.curiumtoad.specs.Said.{verdictSaid, runSaid}
+use Rattle.calls.specs.declared.check.Verdict as verdict-type
+use Rattle.calls.specs.declared.run.RunAnswer as run-type
+use Rattle.calls.specs.Said.{verdictSaid, runSaid}
 use Rattle.curiumtoad.specs.Checked.{Checks}
 
 -- An opening send that some signature of its function covers, with concrete classes and 0 at unused places.

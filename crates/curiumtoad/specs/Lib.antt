@@ -1,8 +1,5 @@
-pub mod Refusal
-pub mod Prepared
-pub mod Send
-pub mod Said
+pub mod Preparation
 pub mod Checked
 pub mod Alike
 pub mod Accepted
-pub mod Reader
+pub mod Instruction

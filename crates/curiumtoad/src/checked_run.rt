@@ -7,7 +7,7 @@ ghost use mathlib.Core.Path.{_≡_};
 ghost use mathlib.Core.List.{[], _∷_};
 ghost use lib.ListN.{length};
 ghost use Rattle.rules.specs.Calls.{runCall, scratchAfter};
-ghost use Rattle.curiumtoad.specs.Said.{runSaid};
+ghost use Rattle.calls.specs.Said.{runSaid};
 ghost use Rattle.curiumtoad.specs.Checked.{Checks};
 ghost use Rattle.curiumtoad.specs.Alike.{JudgedAlike};
 

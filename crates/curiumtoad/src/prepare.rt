@@ -1,43 +1,61 @@
 // What every call that takes scratch begins with: it opens the bundle, asks for enough scratch and fills the subclass matrix.
-use crate::opening::finding;
 use crate::opening::open;
-use crate::refusal::Refusal;
+use bundle_rules::finding::LayoutFinding;
+use bundle_rules::finding::Opening;
+use bundle_rules::finding::finding_of;
+use calls::refusal::Refusal;
 use dispatch::matrix::BYTES;
 use dispatch::matrix::fill;
 use layout::bundle::Bundle;
-use layout::finding::Opening;
 ghost use mathlib.Core.Path.{_≡_};
 ghost use Rattle.rules.specs.Calls.{scratchAfter};
-ghost use Rattle.curiumtoad.specs.Prepared.{Prepares, Turned};
+ghost use Rattle.curiumtoad.specs.Preparation.{Prepares, Unprepared, EarlyAs};
 
-pub enum Prepared {
-    Ready(Bundle),
-    Refused(Refusal),
+// Numbers 1 to 9, and 19: what is refused before a call's own rules.
+pub(crate) enum Early {
+    Layout(LayoutFinding),
+    Scratch,
 }
 
-// The opened bundle with the matrix in the scratch, or the refusal, 1 to 9 or 19, that leaves the scratch as it was.
-pub(crate) fn prepare(bundle: &[u8], scratch: &mut [u8]) -> Prepared
+pub(crate) enum Preparation {
+    Ready(Bundle),
+    Refused(Early),
+}
+
+// The opened bundle with the matrix in the scratch, or the refusal, which leaves the scratch as it was.
+pub(crate) fn prepare(bundle: &[u8], scratch: &mut [u8]) -> Preparation
     ensures { λ r. ⌜ Prepares (now (bundle .entry)) (now (scratch .entry)) r ⌝ }
     ensures { λ r. ⌜ now (scratch .exit) ≡ scratchAfter (now (bundle .entry)) (now (scratch .entry)) ⌝ }
 {
     let opening = open(bundle);
     let Opening::Opened(b) = opening else {
-        return Prepared::Refused(Refusal::Layout(finding(opening)));
+        return Preparation::Refused(Early::Layout(finding_of(opening)));
     };
     if scratch.len() < BYTES {
-        return Prepared::Refused(Refusal::Scratch);
+        return Preparation::Refused(Early::Scratch);
     }
     fill(bundle, b, scratch);
-    Prepared::Ready(b)
+    Preparation::Ready(b)
+}
+
+// Why a call could not be prepared.
+pub(crate) fn reason(prepared: Preparation) -> Early
+    requires { ⌜ Unprepared prepared ⌝ }
+    ensures { λ r. ⌜ prepared ≡ Preparation.Refused r ⌝ }
+{
+    match prepared {
+        Preparation::Refused(refused) => refused,
+        Preparation::Ready(_) => Early::Scratch,
+    }
 }
 
 // The refusal of a call that could not be prepared.
-pub(crate) fn refusal(prepared: Prepared) -> Refusal
-    requires { ⌜ Turned prepared ⌝ }
-    ensures { λ r. ⌜ prepared ≡ Prepared.Refused r ⌝ }
+pub(crate) fn refusal(prepared: Preparation) -> Refusal
+    requires { ⌜ Unprepared prepared ⌝ }
+    ensures { λ r. ⌜ EarlyAs prepared r ⌝ }
 {
-    match prepared {
-        Prepared::Refused(found) => found,
-        Prepared::Ready(_) => Refusal::Scratch,
+    match reason(prepared) {
+        Early::Layout(found) => Refusal::Layout(found),
+        Early::Scratch => Refusal::Scratch,
     }
 }

@@ -1,17 +1,17 @@
 // The body view: the part of the bundle that is a method's code.
-use crate::opening::finding;
 use crate::opening::number;
 use crate::opening::open;
 use crate::opening::record;
+use bundle_rules::finding::Opening;
+use bundle_rules::finding::finding_of;
 use layout::bundle::Bundle;
 use layout::field::body_span;
-use layout::finding::Opening;
 ghost use mathlib.Core.Path.{_≡_};
 ghost use Prim.Native.Nat.{_+_, _<_};
 ghost use Rattle.rules.specs.Layout.{codeAt, codeOf};
 ghost use Rattle.rules.specs.Calls.{bodyViewCall, bodyViewStart};
 ghost use Rattle.layout.specs.Opened.{Opened};
-ghost use Rattle.curiumtoad.specs.Refusal.{partOf, numberOf, recordOf};
+ghost use Rattle.calls.specs.Answers.{partOf, numberOf, recordOf};
 
 // The code of a method. An enum cannot hold a part of the bundle, so a refusal leaves by the two lent numbers: the number of the refusal and the
 // record it names, 0 where it names none, with an empty part. Both are 0 where there is no refusal. Two methods may have equal code, so the contract gives
@@ -29,7 +29,7 @@ pub fn body_view<'a>(
 {
     let opening = open(bundle);
     let Opening::Opened(b) = opening else {
-        let found = finding(opening);
+        let found = finding_of(opening);
         *refusal = number(found);
         *place = record(found);
         return &bundle[..0];

@@ -6,13 +6,13 @@ use mathlib.Core.Bool.{true}
 use mathlib.Core.List.{List, _∷_}
 use Rattle.rules.specs.Bounded.{every}
 use Rattle.rules.specs.Calls.{checkCallNaming}
-use Rattle.layout.specs.Opening.{saidOf}
-use Rattle.curiumtoad.specs.declared.refusal.Refusal.{Refusal}
-use Rattle.curiumtoad.specs.declared.refusal.Refusal.the-variants as refusal
+use Rattle.bundle_rules.specs.Opening.{saidOf}
+use Rattle.calls.specs.declared.refusal.Refusal.{Refusal}
+use Rattle.calls.specs.declared.refusal.Refusal.the-variants as refusal
 use Rattle.curiumtoad.specs.declared.run_accepted.AcceptedRun.{AcceptedRun}
 use Rattle.curiumtoad.specs.declared.run_accepted.AcceptedRun.the-variants.{Value, Spent, Deep, NotAccepted, NotCovered, Refused}
-use Rattle.curiumtoad.specs.Refusal.{valuesOf}
-use Rattle.curiumtoad.specs.Prepared.{refusalSaid}
+use Rattle.calls.specs.Answers.{valuesOf}
+use Rattle.calls.specs.Said.{refusalSaid}
 use Rattle.curiumtoad.specs.Accepted.{Accepts}
 use Rattle.curiumtoad_c.specs.Exported.{nothing, outcomeValues, exportedValues, acceptedValues}
 use Rattle.curiumtoad_c.proofs.Fitting.{small, filled-small, Small, values-small}

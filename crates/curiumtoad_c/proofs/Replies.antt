@@ -4,16 +4,16 @@ use Prim.Native.Nat.{ℕ}
 use mathlib.Core.Path.{_≡_, refl, sym, ap, _∙_}
 use mathlib.Core.List.{List, [], _∷_}
 use lib.ListN.{set}
-use Rattle.layout.specs.declared.finding.LayoutFinding.{LayoutFinding}
-use Rattle.layout.specs.declared.finding.LayoutFinding.the-variants as finding
-use Rattle.layout.specs.Opening.{saidOf}
+use Rattle.bundle_rules.specs.declared.finding.LayoutFinding.{LayoutFinding}
+use Rattle.bundle_rules.specs.declared.finding.LayoutFinding.the-variants as finding
+use Rattle.bundle_rules.specs.Opening.{saidOf}
 use Rattle.machine.specs.declared.ending.Ending.{Ending}
 use Rattle.machine.specs.declared.ending.Ending.the-variants as ending
 use Rattle.machine.specs.Endings.{endingOf}
-use Rattle.curiumtoad.specs.declared.refusal.Refusal.{Refusal}
-use Rattle.curiumtoad.specs.declared.refusal.Refusal.the-variants as refusal
-use Rattle.curiumtoad.specs.Refusal.{numberOf, valuesOf, recordOf}
-use Rattle.curiumtoad.specs.Prepared.{refusalSaid}
+use Rattle.calls.specs.declared.refusal.Refusal.{Refusal}
+use Rattle.calls.specs.declared.refusal.Refusal.the-variants as refusal
+use Rattle.calls.specs.Answers.{numberOf, valuesOf, recordOf}
+use Rattle.calls.specs.Said.{refusalSaid}
 use Rattle.curiumtoad.proofs.Called.{layout-refuses}
 use Rattle.curiumtoad_c.specs.declared.reply.Reply.{Reply}
 use Rattle.curiumtoad_c.specs.Exported.{replyValues, filled, exportedNumber, exportedValues, nothing, counts, endingValues, outcomeValues, runNumber}
@@ -32,12 +32,7 @@ pub layout-values : (f : LayoutFinding) → filled 8 (recordOf (saidOf f) ∷ 0 
 layout-values finding.Size = refl
 layout-values finding.Directory = refl
 layout-values finding.Limits = refl
-layout-values (finding.Class k) = refl
-layout-values (finding.Function k) = refl
-layout-values (finding.Signature k) = refl
-layout-values (finding.Method k) = refl
-layout-values (finding.Twin k) = refl
-layout-values (finding.Code k) = refl
+layout-values (finding.Record rule k) = refl
 
 -- what a finding says as an answer of opening, and as its number and values
 pub layout-said : {x : Reply} (f : LayoutFinding) → Says x (numberOf (saidOf f)) (filled 8 (valuesOf (saidOf f)))
@@ -78,8 +73,8 @@ unfolding endingOf
 steps-last (ending.Value v) k = refl
 steps-last ending.Spent k = refl
 steps-last ending.Deep k = refl
-steps-last (ending.Missing f x y z) k = refl
-steps-last (ending.Ambiguous f x y z m n) k = refl
-steps-last (ending.Declared f x y z m) k = refl
+steps-last (ending.Missing x) k = refl
+steps-last (ending.Ambiguous x m n) k = refl
+steps-last (ending.Declared x m) k = refl
 steps-last (ending.Values m at) k = refl
 steps-last (ending.Abstract m at) k = refl

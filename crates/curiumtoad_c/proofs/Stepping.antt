@@ -14,7 +14,7 @@ use Rattle.rules.specs.Model.{Model, Instr, arg, new, send, Wellformed, modelOf
 use Rattle.rules.specs.Lookup.{Found, found, missing, ambiguous, lookup}
 use Rattle.rules.specs.Types.{arguments}
 use Rattle.rules.specs.Coverage.{declaredHold}
-use Rattle.rules.specs.Machine.{Frame, Ending, value, spent, deep, stopped, Landing, goes, ends, Turn, made, failed, stoppedAt, settle, push, land, Target, enters, stops, targetFound, target, enter, callTarget, call, after, turn, meeting, sent, Outcome, finished, meets, afterTurn, runFrom, run, maxFrames}
+use Rattle.rules.specs.Machine.{Frame, Ending, value, spent, deep, stopped, Resumption, goes, ends, Turn, made, failed, stoppedAt, settle, push, resume, Target, enters, stops, targetFound, target, enter, callTarget, call, after, turn, meeting, sent, Outcome, finished, meets, afterTurn, runFrom, run, maxFrames}
 use Rattle.rules.specs.Calls.{used, runIn, runCall}
 use Rattle.rules.proofs.Lists.{and-left, and-right}
 use Rattle.rules.proofs.Lookup.{lookup-leader}
@@ -49,12 +49,12 @@ SmallEnding spent = Unit {0}
 SmallEnding deep = Unit {0}
 SmallEnding (stopped number values) = every small values ≡ true
 
-abbrev OfLanding : Landing → Type 0
-OfLanding (goes i g callers) = (smallOperand i ≡ true) × SmallFrame (g .method) (g .args) (suc (g .at)) (g .rest) (g .stack) × OfFrames callers
-OfLanding (ends e) = SmallEnding e
+abbrev OfResumption : Resumption → Type 0
+OfResumption (goes i g callers) = (smallOperand i ≡ true) × SmallFrame (g .method) (g .args) (suc (g .at)) (g .rest) (g .stack) × OfFrames callers
+OfResumption (ends e) = SmallEnding e
 
 abbrev OfTurn : Turn → Type 0
-OfTurn (made l) = OfLanding l
+OfTurn (made l) = OfResumption l
 OfTurn (failed e) = SmallEnding e
 
 either-turn : (t : Bool) (p q : Turn) → OfTurn p → OfTurn q → OfTurn (cond t p q)
@@ -66,9 +66,9 @@ place-small : (number : ℕ) (g : Frame) → small (g .method) ≡ true → g .a
 unfolding stoppedAt
 place-small number g h k = also (g .method) (g .at ∷ []) h (alone (g .at) (below-small (g .at) (omega (arith, k))))
 
-settle-small : (rest : List Instr) (stack : List ℕ) (g : Frame) (callers : List Frame) (return : ℕ → Landing)
-    → SmallFrame (g .method) (g .args) (g .at) rest stack → OfFrames callers → ((v : ℕ) → small v ≡ true → OfLanding (return v))
-    → OfLanding (settle rest stack g callers return)
+settle-small : (rest : List Instr) (stack : List ℕ) (g : Frame) (callers : List Frame) (return : ℕ → Resumption)
+    → SmallFrame (g .method) (g .args) (g .at) rest stack → OfFrames callers → ((v : ℕ) → small v ≡ true → OfResumption (return v))
+    → OfResumption (settle rest stack g callers return)
 unfolding settle every
 settle-small (i ∷ rest) stack g callers return h k f = (
   and-left (smallOperand i) (every smallOperand rest) (h .operands-fit),
@@ -96,11 +96,11 @@ push-small v g h k =
       stack-fits = also v (g .stack) h (k .stack-fits);
     }
 
-land-small : (g : Frame) (callers : List Frame) → OfFrame g → OfFrames callers → OfLanding (land g callers)
-unfolding land
-land-small g [] h k = settle-small (g .rest) (g .stack) g [] (λ v. ends (value v)) h tt (λ v q. q)
-land-small g (x ∷ xs) h (p, q) =
-    settle-small (g .rest) (g .stack) g (x ∷ xs) (λ v. land (push v x) xs) h (p, q) (λ v s. land-small (push v x) xs (push-small v x s p) q)
+resume-small : (g : Frame) (callers : List Frame) → OfFrame g → OfFrames callers → OfResumption (resume g callers)
+unfolding resume
+resume-small g [] h k = settle-small (g .rest) (g .stack) g [] (λ v. ends (value v)) h tt (λ v q. q)
+resume-small g (x ∷ xs) h (p, q) =
+    settle-small (g .rest) (g .stack) g (x ∷ xs) (λ v. resume (push v x) xs) h (p, q) (λ v s. resume-small (push v x) xs (push-small v x s p) q)
 
 getD-small : (xs : List ℕ) (i : ℕ) → every small xs ≡ true → small (getD xs i 0) ≡ true
 unfolding every
@@ -120,7 +120,7 @@ module _ (M : Model) (w : Wellformed M) where
   unfolding enter every
   enter-small m args callers h k c =
       either-turn (ltb (length callers) maxFrames) _ _
-      (land-small _ callers
+      (resume-small _ callers
       (record {
         method-fits = method-small M w 0 [] h;
         args-fit = k;
@@ -173,9 +173,9 @@ module _ (M : Model) (w : Wellformed M) where
       → SmallFrame (g .method) (g .args) (suc (g .at)) (g .rest) (g .stack) → OfFrames callers → OfTurn (turn M i g callers)
   unfolding turn arguments
   turn-small (arg k) g callers o h c =
-      land-small _ callers (after-small g _ h (also (getD (g .args) k 0) (g .stack) (getD-small (g .args) k (h .args-fit)) (h .stack-fits))) c
+      resume-small _ callers (after-small g _ h (also (getD (g .args) k 0) (g .stack) (getD-small (g .args) k (h .args-fit)) (h .stack-fits))) c
   turn-small (new k) g callers o h c =
-      either-turn (M .concrete k) _ _ (land-small _ callers (after-small g _ h (also k (g .stack) o (h .stack-fits))) c)
+      either-turn (M .concrete k) _ _ (resume-small _ callers (after-small g _ h (also k (g .stack) o (h .stack-fits))) c)
       (place-small 15 g (h .method-fits) (omega (arith, h .at-most)))
   turn-small (send f) g callers o h c =
       let n = M .arity f in
@@ -184,14 +184,14 @@ module _ (M : Model) (w : Wellformed M) where
       (after-small g (drop n (g .stack)) h (every-drop small n (g .stack) (h .stack-fits)), c))
       (place-small 14 g (h .method-fits) (omega (arith, h .at-most)))
 
-  rest-small : (left steps : ℕ) (l : Landing) → OfLanding l → SmallEnding ((runFrom M left steps l) .outcome .ending)
+  rest-small : (left steps : ℕ) (l : Resumption) → OfResumption l → SmallEnding ((runFrom M left steps l) .outcome .ending)
   unfolding runFrom finished meets afterTurn
   rest-small zero steps (ends e) h = h
   rest-small zero steps (goes i g callers) h = tt
   rest-small (suc left) steps (ends e) h = h
   rest-small (suc left) steps (goes i g callers) (o, h, c) = go (turn M i g callers) (turn-small i g callers o h c) (λ l k. rest-small left (suc steps) l k)
     where
-      go : (t : Turn) → OfTurn t → ((l : Landing) → OfLanding l → SmallEnding ((runFrom M left (suc steps) l) .outcome .ending))
+      go : (t : Turn) → OfTurn t → ((l : Resumption) → OfResumption l → SmallEnding ((runFrom M left (suc steps) l) .outcome .ending))
           → SmallEnding ((meets (sent M i g) (afterTurn t steps (λ l. runFrom M left (suc steps) l))) .outcome .ending)
       go (made l) p f = f l p
       go (failed e) p f = p

@@ -22,12 +22,12 @@ use Rattle.rules.proofs.Opening.{opened-rules}
 use Rattle.rules.proofs.Places.{rules-sections, body-within, code-length}
 use Rattle.rules.proofs.Wellformed.{opened-wellformed}
 use Rattle.rules.proofs.Lookup.{lookup-leader, lookup-rivals}
-use Rattle.layout.specs.declared.finding.Opening.the-variants as answer
+use Rattle.bundle_rules.specs.declared.finding.Opening.the-variants as answer
 use Rattle.layout.specs.declared.bundle.Bundle.{Bundle}
 use Rattle.layout.specs.declared.field.Span.{Span}
-use Rattle.layout.specs.Opening.{Opens}
+use Rattle.bundle_rules.specs.Opening.{Opens}
 use Rattle.layout.specs.Bodies.{BodySpan}
-use Rattle.curiumtoad.specs.Said.{blank}
+use Rattle.calls.specs.Said.{blank}
 use Rattle.curiumtoad_c.specs.declared.reply.Reply.{Reply}
 use Rattle.curiumtoad_c.specs.Exported.{replyValues, low, filled, exportedNumber, exportedValues, nothing, counts, yesOrNo, method, placed}
 use Rattle.curiumtoad_c.proofs.Replies.{Says}

@@ -1,4 +1,4 @@
--- What an exported function returns and writes: of the answer of its call, document 01's number, 0 where the call answers, and eight values, those that
+-- What an exported function returns and writes: of the answer of its call the number (M 11), 0 where nothing is refused, and eight values, those that
 -- are not named being 0.
 -- Assumes nothing.
 use Prim.Native.Nat.{ℕ, _+_, _%_, _^_}
@@ -13,9 +13,9 @@ use Rattle.rules.specs.Machine.{Ending, value, spent, deep, stopped, Outcome}
 use Rattle.rules.specs.Calls.{bit, checkCallNaming}
 use Rattle.curiumtoad.specs.declared.run_accepted.AcceptedRun as accepted-type
 use Rattle.curiumtoad.specs.declared.run_accepted.AcceptedRun.the-variants.{Value, Spent, Deep, NotAccepted, NotCovered, Refused}
-use Rattle.curiumtoad.specs.declared.check.Verdict.the-variants as verdict
-use Rattle.curiumtoad.specs.Prepared.{refusalSaid}
-use Rattle.curiumtoad.specs.Said.{verdictSaid}
+use Rattle.calls.specs.declared.check.Verdict.the-variants as verdict
+use Rattle.calls.specs.Said.{refusalSaid}
+use Rattle.calls.specs.Said.{verdictSaid}
 use Rattle.curiumtoad.specs.Accepted.{Accepts}
 use Rattle.curiumtoad_c.specs.declared.reply.Reply.{Reply}
 

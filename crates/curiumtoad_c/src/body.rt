@@ -2,14 +2,14 @@
 use crate::reply::Reply;
 use crate::reply::of_opening;
 use crate::reply::short;
+use bundle_rules::finding::Opening;
 use curiumtoad::opening::open;
 use layout::field::body_span;
-use layout::finding::Opening;
 ghost use mathlib.Core.Path.{_≡_};
 ghost use Rattle.rules.specs.Calls.{bodyViewCall};
 ghost use Rattle.curiumtoad_c.specs.Exported.{replyValues, exportedNumber, exportedValues, placed};
 
-pub fn body_place(bundle: &[u8], method: usize) -> Reply
+pub(crate) fn body_place(bundle: &[u8], method: usize) -> Reply
     ensures { λ r. ⌜ r .number ≡ exportedNumber (bodyViewCall (now (bundle .entry)) method) ⌝ }
     ensures { λ r. ⌜ replyValues r ≡ exportedValues (placed (now (bundle .entry)) method) (bodyViewCall (now (bundle .entry)) method) ⌝ }
 {

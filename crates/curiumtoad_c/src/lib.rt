@@ -1,4 +1,4 @@
-// The entry points for C, and for Rust outside the kit. Each function returns document 01's number, 0 where the call answers, and writes eight values;
+// The entry points for C, and for Rust outside the kit. Each function returns the number of its answer (M 11), 0 where nothing is refused, and writes eight values;
 // include/curiumtoad.h says which. Whatever is passed, an answer comes back.
 mod body;
 mod reply;

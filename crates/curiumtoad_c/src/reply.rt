@@ -1,4 +1,7 @@
 // An answer as a number and eight values.
+use bundle_rules::finding::LayoutFinding;
+use bundle_rules::finding::Opening;
+use calls::refusal::Refusal;
 use curiumtoad::ancestry::AncestryAnswer;
 use curiumtoad::check::BodyFinding;
 use curiumtoad::check::Finding;
@@ -6,27 +9,25 @@ use curiumtoad::check::Verdict;
 use curiumtoad::lookup::LookupAnswer;
 use curiumtoad::opening::number;
 use curiumtoad::opening::record;
-use curiumtoad::refusal::Refusal;
 use curiumtoad::run::RunAnswer;
 use curiumtoad::run_accepted::AcceptedRun;
-use curiumtoad::send::Send;
 use curiumtoad::send_type::SendTypeAnswer;
 use curiumtoad::witness::CoverageFinding;
 use curiumtoad::witness::WitnessAnswer;
+use dispatch::send::Send;
 use layout::bundle::Bundle;
-use layout::finding::LayoutFinding;
-use layout::finding::Opening;
 use machine::ending::Ending;
-use machine::ending::Outcome;
+use machine::run::Outcome;
 ghost use mathlib.Core.Path.{_≡_};
 ghost use mathlib.Core.List.{[], _∷_, _++_, map};
 ghost use lib.ListN.{set};
-ghost use Rattle.layout.specs.Opening.{said, saidOf};
-ghost use Rattle.machine.specs.Endings.{endingOf, outcomeOf};
-ghost use Rattle.curiumtoad.specs.Refusal.{numberOf, valuesOf};
-ghost use Rattle.curiumtoad.specs.Prepared.{refusalSaid};
-ghost use Rattle.curiumtoad.specs.Said.{ancestrySaid, lookupSaid, sendTypeSaid, coverageSaid, witnessSaid, runSaid, verdictSaid};
-ghost use Rattle.curiumtoad.specs.Send.{sendValues};
+ghost use Rattle.bundle_rules.specs.Opening.{said, saidOf};
+ghost use Rattle.machine.specs.Endings.{endingOf};
+ghost use Rattle.machine.specs.Outcome.{outcomeOf};
+ghost use Rattle.calls.specs.Answers.{numberOf, valuesOf};
+ghost use Rattle.calls.specs.Said.{refusalSaid};
+ghost use Rattle.calls.specs.Said.{ancestrySaid, lookupSaid, sendTypeSaid, coverageSaid, witnessSaid, runSaid, verdictSaid};
+ghost use Rattle.dispatch.specs.Send.{sendValues};
 ghost use Rattle.curiumtoad_c.specs.Exported.{replyValues, filled, exportedNumber, exportedValues, nothing, counts, yesOrNo, method, endingNumber, endingValues, outcomeValues, runNumber, acceptedNumber, acceptedValues, low};
 
 // The number that a function returns, and the values that it writes.
@@ -70,7 +71,7 @@ fn numbered(
 }
 
 // A number with two values or fewer.
-pub fn short(number: u8, v0: usize, v1: usize) -> Reply
+pub(crate) fn short(number: u8, v0: usize, v1: usize) -> Reply
     ensures { λ r. ⌜ r .number ≡ number ⌝ }
     ensures { λ r. ⌜ replyValues r ≡ filled 8 (v0 ∷ v1 ∷ []) ⌝ }
 {
@@ -105,7 +106,7 @@ fn of_bundle(b: Bundle) -> Reply
     numbered(0, b.classes, b.functions, b.signatures, b.methods, 0, 0, 0)
 }
 
-pub fn of_opening(opening: Opening) -> Reply
+pub(crate) fn of_opening(opening: Opening) -> Reply
     ensures { λ r. ⌜ r .number ≡ exportedNumber (said opening) ⌝ }
     ensures { λ r. ⌜ replyValues r ≡ exportedValues counts (said opening) ⌝ }
 {
@@ -115,7 +116,7 @@ pub fn of_opening(opening: Opening) -> Reply
     }
 }
 
-pub fn of_ancestry(answer: AncestryAnswer) -> Reply
+pub(crate) fn of_ancestry(answer: AncestryAnswer) -> Reply
     ensures { λ r. ⌜ r .number ≡ exportedNumber (ancestrySaid answer) ⌝ }
     ensures { λ r. ⌜ replyValues r ≡ exportedValues yesOrNo (ancestrySaid answer) ⌝ }
 {
@@ -126,7 +127,7 @@ pub fn of_ancestry(answer: AncestryAnswer) -> Reply
     }
 }
 
-// A send that a lookup refuses: the function, its three places, and the two rivals or none.
+// A send that is named: the function, its three places, and two methods, one or none.
 fn of_send(number: u8, send: Send, m: usize, n: usize) -> Reply
     ensures { λ r. ⌜ r .number ≡ number ⌝ }
     ensures { λ r. ⌜ replyValues r ≡ filled 8 (sendValues send ++ m ∷ n ∷ []) ⌝ }
@@ -134,7 +135,7 @@ fn of_send(number: u8, send: Send, m: usize, n: usize) -> Reply
     numbered(number, send.function, send.a0, send.a1, send.a2, m, n, 0)
 }
 
-pub fn of_lookup(answer: LookupAnswer) -> Reply
+pub(crate) fn of_lookup(answer: LookupAnswer) -> Reply
     ensures { λ r. ⌜ r .number ≡ exportedNumber (lookupSaid answer) ⌝ }
     ensures { λ r. ⌜ replyValues r ≡ exportedValues method (lookupSaid answer) ⌝ }
 {
@@ -146,7 +147,7 @@ pub fn of_lookup(answer: LookupAnswer) -> Reply
     }
 }
 
-pub fn of_send_type(answer: SendTypeAnswer) -> Reply
+pub(crate) fn of_send_type(answer: SendTypeAnswer) -> Reply
     ensures { λ r. ⌜ r .number ≡ exportedNumber (sendTypeSaid answer) ⌝ }
     ensures { λ r. ⌜ replyValues r ≡ exportedValues nothing (sendTypeSaid answer) ⌝ }
 {
@@ -186,7 +187,7 @@ fn of_coverage(found: CoverageFinding) -> Reply
     }
 }
 
-pub fn of_witness(answer: WitnessAnswer) -> Reply
+pub(crate) fn of_witness(answer: WitnessAnswer) -> Reply
     ensures { λ r. ⌜ r .number ≡ exportedNumber (witnessSaid answer) ⌝ }
     ensures { λ r. ⌜ replyValues r ≡ exportedValues nothing (witnessSaid answer) ⌝ }
 {
@@ -216,7 +217,7 @@ fn of_finding(found: Finding) -> Reply
     }
 }
 
-pub fn of_verdict(verdict: Verdict) -> Reply
+pub(crate) fn of_verdict(verdict: Verdict) -> Reply
     ensures { λ r. ⌜ r .number ≡ exportedNumber (verdictSaid verdict) ⌝ }
     ensures { λ r. ⌜ replyValues r ≡ exportedValues nothing (verdictSaid verdict) ⌝ }
 {
@@ -235,9 +236,9 @@ fn of_ending(ending: Ending) -> Reply
         Ending::Value(c) => short(0, 0, c),
         Ending::Spent => short(0, 1, 0),
         Ending::Deep => short(0, 2, 0),
-        Ending::Missing(f, a0, a1, a2) => numbered(10, f, a0, a1, a2, 0, 0, 0),
-        Ending::Ambiguous(f, a0, a1, a2, m, n) => numbered(11, f, a0, a1, a2, m, n, 0),
-        Ending::Declared(f, a0, a1, a2, m) => numbered(12, f, a0, a1, a2, m, 0, 0),
+        Ending::Missing(send) => of_send(10, send, 0, 0),
+        Ending::Ambiguous(send, m, n) => of_send(11, send, m, n),
+        Ending::Declared(send, m) => of_send(12, send, m, 0),
         Ending::Values(m, at) => short(14, m, at),
         Ending::Abstract(m, at) => short(15, m, at),
     }
@@ -269,7 +270,7 @@ fn of_outcome(outcome: Outcome) -> Reply
     with_steps(of_ending(ending), outcome.steps)
 }
 
-pub fn of_run(answer: RunAnswer) -> Reply
+pub(crate) fn of_run(answer: RunAnswer) -> Reply
     ensures { λ r. ⌜ r .number ≡ runNumber (runSaid answer) ⌝ }
     ensures { λ r. ⌜ replyValues r ≡ exportedValues outcomeValues (runSaid answer) ⌝ }
 {
@@ -279,7 +280,7 @@ pub fn of_run(answer: RunAnswer) -> Reply
     }
 }
 
-pub fn of_accepted(answer: AcceptedRun) -> Reply
+pub(crate) fn of_accepted(answer: AcceptedRun) -> Reply
     ensures { λ r. ⌜ r .number ≡ acceptedNumber answer ⌝ }
     ensures { λ r. ⌜ replyValues r ≡ acceptedValues answer ⌝ }
 {
@@ -301,7 +302,7 @@ fn narrow(x: usize) -> u32
 }
 
 // Writes the values, and gives the number. That each value fits 32 bits is a law of each call.
-pub fn give(values: &mut [u32; 8], reply: Reply) -> u8
+pub(crate) fn give(values: &mut [u32; 8], reply: Reply) -> u8
     ensures { λ r. ⌜ r ≡ reply .number ⌝ }
     ensures { λ r. ⌜ now (values .exit) ≡ map low (replyValues reply) ⌝ }
 {

@@ -1,151 +1,113 @@
--- What the loops of lookup show: `under` asked of a filled scratch, and the tests of the rules over places and over lists of methods.
+-- What the matrix of a prepared call answers: one class under another, and tuples of classes place by place.
 -- Assumes nothing.
 use Prim.Native.Nat.{ℕ, _≤_, _<_}
 use native.Mathlib.Omega.{arith}
-use mathlib.Core.Path.{_≡_, sym, ap, ap₂, _∙_}
-use mathlib.Core.Bool.{Bool, true, false, not, _||_, true≢false}
-use mathlib.Core.List.{List, List·Memᴰ}
-use lib.Dec.{ltb, eqb}
-use lib.ListN.{length, getD, take}
-use lib.Seq.{getD-take, length-take-le}
-use borrow.Author.Tests.{ltb-true, lt-ltb, eqb-true, eq-eqb}
+use mathlib.Core.Path.{_≡_, refl, sym, ap, ap₂, _∙_}
+use mathlib.Core.Bool.{Bool, true, _&&_}
+use mathlib.Core.List.{List, [], _∷_}
+use lib.Dec.{ltb}
+use lib.ListN.{length, getD}
+use borrow.Author.Tests.{ltb-true}
 use Rattle.rules.specs.Bounded.{every, matching}
 use Rattle.rules.specs.Layout.{places}
 use Rattle.rules.specs.Model.{Model, modelOf, present}
 use Rattle.rules.specs.Subclass.{subclass, under}
-use Rattle.rules.specs.Lookup.{applies, applicable, asSpecific, leads, unbeaten}
-use Rattle.rules.specs.Calls.{scratchBytes, rowBytes}
-use Rattle.rules.proofs.Lists.{and-left, and-right, and-both, every-mem, every-from, every-place, every-places, every-broken, matching-from, matching-at}
-use Rattle.rules.proofs.Lookup.{applicable-candidate}
-use Rattle.rules.proofs.Selection.{MethodOf}
+use Rattle.rules.specs.Calls.{scratchBytes, matrixStride}
+use Rattle.rules.proofs.Lists.{every-place, and-left, and-right}
 use Rattle.layout.specs.Opened.{Opened}
 use Rattle.layout.specs.declared.bundle.Bundle.{Bundle}
 use Rattle.layout.proofs.Opened.{wellformed-of, counts-of}
-use Rattle.layout.proofs.Judged.{Judged, refuted}
-use Rattle.dispatch.specs.Matrix.{Filled, filled, Answers}
-use Rattle.dispatch.specs.Listed.{methodOf, Listed, listed}
+use Rattle.dispatch.specs.Matrix.{Filled, filled, entryAt, entriesAt}
+use Rattle.dispatch.specs.Prepared.{Prepared}
+use Rattle.dispatch.specs.Places.{Arguments, OfArity, InMatrix, Comparable}
+use Rattle.dispatch.proofs.Entry.{filled-read}
 
-filled-long : {M : Model} {s : List ℕ} → Filled M s → scratchBytes ≤ length s
+pub filled-long : {M : Model} {s : List ℕ} → Filled M s → scratchBytes ≤ length s
 filled-long (filled f) = f .long
 
--- each class of a list is under the one at its place in another
-pub under-judged : (M : Model) (xs ys : List ℕ) (n : ℕ) → length xs ≡ n → length ys ≡ n
-    → Judged (under M xs ys) (λ i. subclass M (getD xs i 0) (getD ys i 0)) n
-unfolding under
-under-judged M xs ys n p q =
-    record {
-      holds = λ all. matching-from (subclass M) xs ys 0 0 (p ∙ sym q) (λ i l. all i (omega arith));
-      breaks = λ i l e. refuted (matching (subclass M) xs ys) (λ t. true≢false (sym (matching-at (subclass M) xs ys 0 0 t i (omega arith)) ∙ e));
-    }
+-- each of a list of classes is one
+pub class-below : (M : Model) (xs : List ℕ) → present M xs ≡ true → (i : ℕ) → i < length xs → getD xs i 0 < M .classes
+unfolding present
+class-below M xs e i l = ltb-true (getD xs i 0) (M .classes) (every-place (λ c. ltb c (M .classes)) xs 0 e i l)
+
+present-cons : (M : Model) (x : ℕ) (xs : List ℕ) → present M (x ∷ xs) ≡ true → (x < M .classes) × (present M xs ≡ true)
+unfolding present every
+present-cons M x xs e =
+    (ltb-true x (M .classes) (and-left (ltb x (M .classes)) (present M xs) e), and-right (ltb x (M .classes)) (present M xs) e)
 
 module _ {b : List ℕ} {t : Bundle} (o : Opened b t) where
+  pub in-matrix : (xs : List ℕ) → present (modelOf b) xs ≡ true → InMatrix xs
+  in-matrix xs e i l = omega (arith, class-below (modelOf b) xs e i l, wellformed-of o .classes-limit)
+
+  -- a number below a count of the tables is one of the model's
+  pub of-arity : {f n m : ℕ} → n ≡ modelOf b .arity f → m < t .methods → modelOf b .function m ≡ f → OfArity (modelOf b) n m
+  of-arity e h q = record { bound = omega (arith, counts-of o .methods); arity = e ∙ sym (ap (modelOf b .arity) q) }
+
+  -- the arguments of a send are no more than the layout has places
+  pub arguments-places : {f : ℕ} {args : List ℕ} → Arguments (modelOf b) f args → length args ≤ places
+  arguments-places {f} g = omega (arith, g .arity, wellformed-of o .arity-limit f (g .function))
+
+  -- a method's tuples are as long as its function has arguments, and no longer than the layout has places
+  module _ {n m : ℕ} (h : OfArity (modelOf b) n m) where
+    pub method-below : m < t .methods
+    method-below = omega (arith, counts-of o .methods)
+
+    pub method-places : n ≤ places
+    method-places =
+        let w = wellformed-of o in
+        omega (arith, w .arity-limit (modelOf b .function m) (w .function-present m (h .bound)))
+
+    pub specialisers-long : length (modelOf b .specialisers m) ≡ n
+    specialisers-long = wellformed-of o .specialiser-places m (h .bound) ∙ sym (h .arity)
+
+    pub specialisers-classes : present (modelOf b) (modelOf b .specialisers m) ≡ true
+    specialisers-classes = wellformed-of o .specialisers-present m (h .bound)
+
+    pub declared-long : length (modelOf b .declared m) ≡ n
+    declared-long = wellformed-of o .declared-places m (h .bound) ∙ sym (h .arity)
+
+    pub declared-present : present (modelOf b) (modelOf b .declared m) ≡ true
+    declared-present = wellformed-of o .declared-present m (h .bound)
+
+module _ {b : List ℕ} {t : Bundle} {s : List ℕ} (p : Prepared b t s) where
   -- what `under` requires of two classes of the bundle
-  pub asked : {s : List ℕ} → Filled (modelOf b) s → (a c : ℕ) → a < t .classes → c < t .classes
-      → (scratchBytes ≤ length s) × ((a < rowBytes) × (c < rowBytes))
-  asked f a c p q =
-      let counts = counts-of o in
-      let limit = wellformed-of o .classes-limit in
-      (filled-long f, (omega arith, omega arith))
+  pub asked : (a c : ℕ) → a < t .classes → c < t .classes → (scratchBytes ≤ length s) × ((a < matrixStride) × (c < matrixStride))
+  asked a c h k =
+      let counts = counts-of (p .opened) in
+      let limit = wellformed-of (p .opened) .classes-limit in
+      (filled-long (p .filled), (omega arith, omega arith))
+
+  -- the entry of two classes says whether the one is under the other
+  entry-subclass : (a c : ℕ) → a < modelOf b .classes → c < modelOf b .classes → entryAt s a c ≡ subclass (modelOf b) a c
+  unfolding entryAt
+  entry-subclass a c h k =
+      let limit = wellformed-of (p .opened) .classes-limit in
+      filled-read (modelOf b) s a c (p .filled) (omega arith) (omega arith) h k
+
+  entries-under : (xs ys : List ℕ) → present (modelOf b) xs ≡ true → present (modelOf b) ys ≡ true → entriesAt s xs ys ≡ under (modelOf b) xs ys
+  unfolding entriesAt under matching
+  entries-under [] [] h k = refl
+  entries-under [] (y ∷ ys) h k = refl
+  entries-under (x ∷ xs) [] h k = refl
+  entries-under (x ∷ xs) (y ∷ ys) h k =
+      let M = modelOf b in
+      let u = present-cons M x xs h in
+      let v = present-cons M y ys k in
+      ap₂ _&&_ (entry-subclass x y (u .0) (v .0)) (entries-under xs ys (u .1) (v .1))
 
   -- and what it gives
-  pub answered : {s : List ℕ} {a c : ℕ} {r : Bool} → Filled (modelOf b) s → Answers s a c r → a < t .classes → c < t .classes
-      → {x y : ℕ} → a ≡ x → c ≡ y → r ≡ subclass (modelOf b) x y
-  answered f u p q e g =
-      let counts = counts-of o in
-      u .answer (modelOf b) f (omega arith) (omega arith) ∙ ap₂ (subclass (modelOf b)) e g
+  pub answered : {a c : ℕ} {r : Bool} → r ≡ entryAt s a c → a < t .classes → c < t .classes → {x y : ℕ} → a ≡ x → c ≡ y
+      → r ≡ subclass (modelOf b) x y
+  answered {a} {c} u h k e g =
+      let counts = counts-of (p .opened) in
+      u ∙ entry-subclass a c (omega arith) (omega arith) ∙ ap₂ (subclass (modelOf b)) e g
 
-  -- a method has no more places than the layout
-  pub method-places : (m : ℕ) → m < t .methods → modelOf b .arity (modelOf b .function m) ≤ places
-  method-places m h =
-      let w = wellformed-of o in
-      w .arity-limit (modelOf b .function m) (w .function-present m (omega (arith, counts-of o)))
+  -- the same of two tuples, which are known by equations
+  module _ {xs ys : List ℕ} (h : present (modelOf b) xs ≡ true) (k : present (modelOf b) ys ≡ true) where
+    pub comparable : {ps qs : List ℕ} → ps ≡ xs → qs ≡ ys → length xs ≡ length ys → Comparable s ps qs
+    comparable e g q =
+        rw (e, g)
+        (record { long = filled-long (p .filled); even = q; lower = in-matrix (p .opened) xs h; upper = in-matrix (p .opened) ys k })
 
-  -- a method of a function has as many places as the function
-  pub of-arity : {f n : ℕ} (m : ℕ) → n ≡ modelOf b .arity f → modelOf b .function m ≡ f → n ≡ modelOf b .arity (modelOf b .function m)
-  of-arity m e q = e ∙ sym (ap (modelOf b .arity) q)
-
-  -- the argument at a place is a class of the bundle
-  pub argument-below : (n : ℕ) (args : List ℕ) → n ≤ length args → present (modelOf b) (take n args) ≡ true → (i : ℕ) → i < n
-      → getD args i 0 < t .classes
-  unfolding present
-  argument-below n args h e i l =
-      let counts = counts-of o in
-      let same = getD-take n args i 0 l in
-      let long = length-take-le n args h in
-      let below = every-place (λ c. ltb c (modelOf b .classes)) (take n args) 0 e i (omega arith) in
-      omega (arith, ltb-true (getD (take n args) i 0) (modelOf b .classes) below)
-
-  -- the two tests over places, each by what it asks at a place
-  pub specific-judged : (m k n : ℕ) → m < t .methods → k < t .methods
-      → n ≡ modelOf b .arity (modelOf b .function m) → n ≡ modelOf b .arity (modelOf b .function k)
-      → Judged (asSpecific (modelOf b) m k) (λ i. subclass (modelOf b) (getD (modelOf b .specialisers m) i 0) (getD (modelOf b .specialisers k) i 0)) n
-  unfolding asSpecific
-  specific-judged m k n p q e g =
-      let counts = counts-of o in
-      let w = wellformed-of o in
-      under-judged (modelOf b) (modelOf b .specialisers m) (modelOf b .specialisers k) n
-      (w .specialiser-places m (omega arith) ∙ sym e) (w .specialiser-places k (omega arith) ∙ sym g)
-
-  pub applies-judged : (n : ℕ) (args : List ℕ) (m : ℕ) → m < t .methods → n ≡ modelOf b .arity (modelOf b .function m) → n ≤ length args
-      → Judged (applies (modelOf b) (take n args) m) (λ i. subclass (modelOf b) (getD (take n args) i 0) (getD (modelOf b .specialisers m) i 0)) n
-  unfolding applies
-  applies-judged n args m p e h =
-      let counts = counts-of o in
-      under-judged (modelOf b) (take n args) (modelOf b .specialisers m) n (length-take-le n args h)
-      (wellformed-of o .specialiser-places m (omega arith) ∙ sym e)
-
--- a list's first elements, by their places in the list
-module _ (list : List ℕ) (count : ℕ) (h : count ≤ length list) where
-  pub every-judged : (p : ℕ → Bool) → Judged (every p (take count list)) (λ i. p (getD list i 0)) count
-  every-judged p =
-      let long = length-take-le count list h in
-      record {
-        holds = λ all. every-places p (take count list) 0 (λ i l. rw (getD-take count list i 0 (omega arith)) (all i (omega arith)));
-        breaks = λ i l e. every-broken p (take count list) 0 i (omega arith) (rw (getD-take count list i 0 l) e);
-      }
-
-  pub unbeaten-judged : (M : Model) (m : ℕ)
-      → Judged (unbeaten M (take count list) m) (λ i. eqb (getD list i 0) m || not (asSpecific M (getD list i 0) m)) count
-  unfolding unbeaten
-  unbeaten-judged M m = every-judged (λ n. eqb n m || not (asSpecific M n m))
-
-  pub leads-judged : (M : Model) (m : ℕ)
-      → Judged (leads M (take count list) m) (λ i. eqb (getD list i 0) m || asSpecific M m (getD list i 0)) count
-  unfolding leads
-  leads-judged M m = every-judged (λ n. eqb n m || asSpecific M m n)
-
-  listed-method : (M : Model) (f : ℕ) → Listed M f (take count list) → (i : ℕ) → i < count → methodOf M f (getD list i 0) ≡ true
-  listed-method M f (listed e) i l =
-      let long = length-take-le count list h in
-      rw (getD-take count list i 0 l) at (every-place (methodOf M f) (take count list) 0 e i (omega arith))
-
-  -- each of a list of methods of a function is one
-  pub listed-at : {b : List ℕ} {t : Bundle} → Opened b t → (f : ℕ) → Listed (modelOf b) f (take count list) → (i : ℕ) → i < count
-      → (getD list i 0 < t .methods) × (modelOf b .function (getD list i 0) ≡ f)
-  unfolding methodOf
-  listed-at {b} o f ms i l =
-      let m = getD list i 0 in
-      let e = listed-method (modelOf b) f ms i l in
-      let counts = counts-of o in
-      let below = ltb-true m (modelOf b .methods) (and-left (ltb m (modelOf b .methods)) (eqb (modelOf b .function m) f) e) in
-      (omega arith, eqb-true (modelOf b .function m) f (and-right (ltb m (modelOf b .methods)) (eqb (modelOf b .function m) f) e))
-
--- the same by membership
-pub each-method : {M : Model} {f : ℕ} {ms : List ℕ} → Listed M f ms → (n : ℕ) → List·Memᴰ n ms → MethodOf M f n
-unfolding methodOf
-each-method {M} {f} {ms} (listed e) n h =
-    let t = every-mem (methodOf M f) ms e h in
-    record {
-      bound = ltb-true n (M .methods) (and-left (ltb n (M .methods)) (eqb (M .function n) f) t);
-      ofFunction = eqb-true (M .function n) f (and-right (ltb n (M .methods)) (eqb (M .function n) f) t);
-    }
-
--- the applicable methods of a function are methods of it
-pub applicable-listed : (M : Model) (f : ℕ) (args : List ℕ) → Listed M f (applicable M f args)
-unfolding methodOf
-applicable-listed M f args = listed (every-from (methodOf M f) (applicable M f args) one)
-  where
-    one : (m : ℕ) → List·Memᴰ m (applicable M f args) → methodOf M f m ≡ true
-    one m h =
-        let c = applicable-candidate M f args h in
-        and-both (ltb m (M .methods)) (eqb (M .function m) f) (lt-ltb m (M .methods) (c .bound)) (eq-eqb (M .function m) f (c .ofFunction))
+    pub compared : {ps qs : List ℕ} {r : Bool} → ps ≡ xs → qs ≡ ys → r ≡ entriesAt s ps qs → r ≡ under (modelOf b) xs ys
+    compared e g u = u ∙ ap₂ (entriesAt s) e g ∙ entries-under xs ys h k

@@ -3,26 +3,58 @@
 use Prim.Native.Nat.{ℕ, suc, _+_, _≤_, _<_}
 use native.Mathlib.Numerals.{add-one}
 use native.Mathlib.Omega.{arith}
-use mathlib.Core.Path.{_≡_, sym, ap, _∙_}
-use mathlib.Core.Bool.{Bool, true, _&&_}
+use mathlib.Core.Path.{_≡_, refl, sym, ap, subst, _∙_}
+use mathlib.Core.Bool.{Bool, true, false}
 use mathlib.Core.List.{List, [], _∷_, _++_}
-use lib.Dec.{eqb}
-use lib.ListN.{length, getD, take, drop, set, length-append, List·getD-eq-default}
+use lib.ListN.{length, getD, take, drop, set, length-append, length-set, List·getD-eq-default}
 use lib.Seq.{take-suc-set, take-all, split-at, getD-at}
 use Rattle.rules.specs.Bounded.{upto, keep}
-use Rattle.rules.specs.Model.{Model}
-use Rattle.rules.specs.Lookup.{applies}
-use Rattle.rules.proofs.Lists.{keep-hit, keep-append, keep-upto-hit, keep-take-hit}
+use Rattle.rules.proofs.Lists.{keep-hit, keep-append, keep-take-hit, keep-take-miss, length-upto, getD-upto}
+use Rattle.dispatch.specs.Listed.{Written}
 
--- m is an applicable method of function f
-abbrev pub suited : Model → ℕ → List ℕ → ℕ → Bool
-suited M f args m = eqb (M .function m) f && applies M args m
+-- A loop over a list writes what passes into a lent one: of the first i elements, `kept` have passed.
+pub record Keeping (p : ℕ → Bool) (xs old list : List ℕ) (i kept : ℕ) : Type 0 where
+  pub within : i ≤ length xs
+  pub few : kept ≤ i
+  pub same : length list ≡ length old
+  pub holds : take kept list ≡ keep p (take i xs)
 
--- a list that holds what is kept of the numbers below k, with k stored behind it
-pub kept-stored : (p : ℕ → Bool) (k count : ℕ) (list : List ℕ) → count < length list → take count list ≡ keep p (upto k) → p k ≡ true
-    → take (count + 1) (set list count k) ≡ keep p (upto (k + 1))
-kept-stored p k count list h e t =
-    rw (add-one count, take-suc-set list count k h) (ap (λ (l : List ℕ). l ++ (k ∷ [])) e ∙ sym (keep-upto-hit p k t))
+module _ (p : ℕ → Bool) (xs old : List ℕ) where
+  pub keeping-none : Keeping p xs old old 0 0
+  unfolding keep
+  keeping-none = record { within = omega arith; few = omega arith; same = refl; holds = refl }
+
+  module _ {list : List ℕ} {i kept : ℕ} (k : Keeping p xs old list i kept) where
+    pub keeping-miss : i < length xs → p (getD xs i 0) ≡ false → Keeping p xs old list (i + 1) kept
+    keeping-miss h e =
+        record { within = omega arith; few = omega arith; same = k .same; holds = k .holds ∙ sym (keep-take-miss p xs 0 i h e) }
+
+    pub keeping-hit : length xs ≤ length old → i < length xs → p (getD xs i 0) ≡ true
+        → Keeping p xs old (set list kept (getD xs i 0)) (i + 1) (kept + 1)
+    keeping-hit r h e =
+        let m = getD xs i 0 in
+        record {
+          within = omega arith;
+          few = omega arith;
+          same = length-set list kept m ∙ k .same;
+          holds = rw (add-one kept, take-suc-set list kept m (omega arith)) (ap (λ (l : List ℕ). l ++ (m ∷ [])) (k .holds) ∙ sym (keep-take-hit p xs 0 i h e));
+        }
+
+    pub keeping-all : length xs ≤ length old → length xs ≤ i → Written (keep p xs) old list kept
+    keeping-all r h = record { room = omega arith; same = k .same; holds = rw (take-all i xs h) at (k .holds) }
+
+-- the same over the numbers below n
+module _ (p : ℕ → Bool) (n : ℕ) (old : List ℕ) {list : List ℕ} {i kept : ℕ} (k : Keeping p (upto n) old list i kept) where
+  pub upto-miss : i < n → p i ≡ false → Keeping p (upto n) old list (i + 1) kept
+  upto-miss h e = keeping-miss p (upto n) old k (omega (arith, length-upto n)) (ap p (getD-upto n i 0 h) ∙ e)
+
+  pub upto-hit : n ≤ length old → i < n → p i ≡ true → Keeping p (upto n) old (set list kept i) (i + 1) (kept + 1)
+  upto-hit r h e =
+      subst (λ (m : ℕ). Keeping p (upto n) old (set list kept m) (i + 1) (kept + 1)) (getD-upto n i 0 h)
+      (keeping-hit p (upto n) old k (omega (arith, length-upto n)) (omega (arith, length-upto n)) (ap p (getD-upto n i 0 h) ∙ e))
+
+  pub upto-all : n ≤ length old → n ≤ i → Written (keep p (upto n)) old list kept
+  upto-all r h = keeping-all p (upto n) old k (omega (arith, length-upto n)) (omega (arith, length-upto n))
 
 module _ (p : ℕ → Bool) (xs : List ℕ) where
   -- what passes stands, among what is kept, behind what is kept of those before it

@@ -1,3 +1,5 @@
 pub mod Entry
 pub mod Asked
+pub mod Listed
 pub mod Kept
+pub mod Tuples

@@ -1,3 +1,6 @@
 pub mod Matrix
+pub mod Prepared
+pub mod Places
 pub mod Listed
 pub mod Found
+pub mod Send

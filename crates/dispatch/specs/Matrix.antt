@@ -1,14 +1,15 @@
 -- The scratch as the subclass matrix of a model.
 -- Assumes nothing.
-use Prim.Native.Nat.{ℕ, _≤_, _<_}
+use Prim.Native.Nat.{ℕ, _+_, _*_, _≤_, _<_}
 use mathlib.Core.Path.{_≡_}
 use mathlib.Core.Bool.{Bool}
 use mathlib.Core.List.{List}
+use lib.Dec.{eqb}
 use lib.ListN.{length, getD}
-use Rattle.rules.specs.Bounded.{any}
+use Rattle.rules.specs.Bounded.{any, matching}
 use Rattle.rules.specs.Model.{Model}
 use Rattle.rules.specs.Subclass.{subclass}
-use Rattle.rules.specs.Calls.{scratchBytes, matrixByte}
+use Rattle.rules.specs.Calls.{scratchBytes, matrixStride, matrixByte}
 
 -- the first n bytes hold the matrix
 pub record FilledTo (M : Model) (s : List ℕ) (n : ℕ) : Type 0 where
@@ -19,9 +20,13 @@ pub record FilledTo (M : Model) (s : List ℕ) (n : ℕ) : Type 0 where
 pub data Filled (M : Model) (s : List ℕ) : Type 0 where
   filled : FilledTo M s scratchBytes → Filled M s
 
--- r answers whether a is under c, in any model whose matrix this is
-pub record Answers (s : List ℕ) (a c : ℕ) (r : Bool) : Type 0 where
-  pub answer : (M : Model) → Filled M s → a < M .classes → c < M .classes → r ≡ subclass M a c
+-- the entry of class a under class c, as a test
+unfoldable pub entryAt : List ℕ → ℕ → ℕ → Bool
+entryAt s a c = eqb (getD s (matrixStride * a + c) 0) 1
+
+-- the entries of two tuples, place by place
+unfoldable pub entriesAt : List ℕ → List ℕ → List ℕ → Bool
+entriesAt s = matching (entryAt s)
 
 -- a parent of a is under c
 unfoldable pub inherited : Model → ℕ → ℕ → Bool

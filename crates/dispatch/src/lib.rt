@@ -1,5 +1,8 @@
-// Dispatch: the subclass matrix in the scratch, the methods that apply to a send, and the one that lookup finds.
-pub mod applicable;
+// Dispatch: the subclass matrix in the scratch, tuples of classes compared by it, the methods that apply to a send, and the one that lookup finds.
+mod applicable;
 pub mod lookup;
 pub mod matrix;
+pub mod places;
 pub mod select;
+pub mod send;
+pub mod tuple;

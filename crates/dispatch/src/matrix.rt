@@ -7,12 +7,12 @@ ghost use mathlib.Core.Path.{_≡_};
 ghost use Prim.Native.Nat.{_+_, _*_, _<_, _≤_};
 ghost use lib.ListN.{length};
 ghost use Rattle.rules.specs.Model.{modelOf};
-ghost use Rattle.rules.specs.Calls.{scratchBytes, rowBytes, overwrite, matrixByte};
+ghost use Rattle.rules.specs.Calls.{scratchBytes, matrixStride, overwrite, matrixByte};
 ghost use Rattle.layout.specs.Opened.{Opened};
-ghost use Rattle.dispatch.specs.Matrix.{FilledTo, Answers, inherited};
+ghost use Rattle.dispatch.specs.Matrix.{FilledTo, entryAt, inherited};
 
-// The classes of a row, and the bytes of the matrix.
-pub const ROW: usize = 128;
+// The entries of a row, and the bytes of the matrix.
+const STRIDE: usize = 128;
 
 pub const BYTES: usize = 16384;
 
@@ -21,14 +21,14 @@ fn inherits(bytes: &[u8], b: Bundle, scratch: &[u8], a: usize, c: usize) -> bool
     requires { ⌜ Opened (now bytes) b ⌝ }
     requires { ⌜ a < b .classes ⌝ }
     requires { ⌜ c < b .classes ⌝ }
-    requires { ⌜ FilledTo (modelOf (now bytes)) (now scratch) (rowBytes * a) ⌝ }
+    requires { ⌜ FilledTo (modelOf (now bytes)) (now scratch) (matrixStride * a) ⌝ }
     ensures { λ r. ⌜ r ≡ inherited (modelOf (now (bytes .entry))) a c ⌝ }
 {
     let n = parent_count(bytes, b, a);
     let mut i = 0;
     while i < n {
         let p = parent(bytes, b, a, i);
-        if scratch[ROW * p + c] == 1 {
+        if scratch[STRIDE * p + c] == 1 {
             return true;
         }
         i += 1;
@@ -43,8 +43,8 @@ fn entry(bytes: &[u8], b: Bundle, scratch: &[u8], k: usize) -> u8
     requires { ⌜ FilledTo (modelOf (now bytes)) (now scratch) k ⌝ }
     ensures { λ r. ⌜ r ≡ matrixByte (modelOf (now (bytes .entry))) k ⌝ }
 {
-    let a = k / ROW;
-    let c = k % ROW;
+    let a = k / STRIDE;
+    let c = k % STRIDE;
     if b.classes <= a {
         return 0;
     }
@@ -74,12 +74,12 @@ pub fn fill(bytes: &[u8], b: Bundle, scratch: &mut [u8])
     }
 }
 
-// Whether class a is under class c, in any model whose matrix the scratch holds.
+// The entry of class a under class c. In a scratch that holds the matrix of a model, it says whether a is under c.
 pub fn under(scratch: &[u8], a: usize, c: usize) -> bool
     requires { ⌜ scratchBytes ≤ length (now scratch) ⌝ }
-    requires { ⌜ a < rowBytes ⌝ }
-    requires { ⌜ c < rowBytes ⌝ }
-    ensures { λ r. ⌜ Answers (now (scratch .entry)) a c r ⌝ }
+    requires { ⌜ a < matrixStride ⌝ }
+    requires { ⌜ c < matrixStride ⌝ }
+    ensures { λ r. ⌜ r ≡ entryAt (now (scratch .entry)) a c ⌝ }
 {
-    scratch[ROW * a + c] == 1
+    scratch[STRIDE * a + c] == 1
 }

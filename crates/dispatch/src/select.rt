@@ -1,16 +1,15 @@
 // The method that leads a list of applicable ones, or the two rivals to name.
-use crate::matrix::under;
+use crate::places::each_under;
+use crate::tuple::specialisers;
 use layout::bundle::Bundle;
-use layout::field::specialiser;
 ghost use mathlib.Core.Path.{_≡_};
-ghost use mathlib.Core.Bool.{true};
-ghost use Prim.Native.Nat.{_<_, _≤_};
-ghost use lib.ListN.{length, take, getD};
+ghost use Prim.Native.Nat.{_<_};
+ghost use lib.ListN.{length, getD};
 ghost use Rattle.rules.specs.Model.{modelOf};
 ghost use Rattle.rules.specs.Lookup.{asSpecific, unbeaten, rivals, select};
-ghost use Rattle.layout.specs.Opened.{Opened};
-ghost use Rattle.dispatch.specs.Matrix.{Filled};
-ghost use Rattle.dispatch.specs.Listed.{Listed};
+ghost use Rattle.dispatch.specs.Prepared.{Prepared};
+ghost use Rattle.dispatch.specs.Places.{OfArity};
+ghost use Rattle.dispatch.specs.Listed.{Candidates};
 ghost use Rattle.dispatch.specs.Found.{foundOf};
 
 // One method; none applicable, number 10; or ambiguous, number 11, with the two rivals to name.
@@ -20,28 +19,16 @@ pub enum Found {
     Ambiguous(usize, usize),
 }
 
-// Whether method m is at least as specific as method o of the same function of n arguments.
+// Whether method m is at least as specific as method o, both of functions with n arguments.
 pub fn as_specific(bytes: &[u8], b: Bundle, scratch: &[u8], n: usize, m: usize, o: usize) -> bool
-    requires { ⌜ Opened (now bytes) b ⌝ }
-    requires { ⌜ Filled (modelOf (now bytes)) (now scratch) ⌝ }
-    requires { ⌜ m < b .methods ⌝ }
-    requires { ⌜ o < b .methods ⌝ }
-    requires { ⌜ n ≡ (modelOf (now bytes)) .arity ((modelOf (now bytes)) .function m) ⌝ }
-    requires { ⌜ n ≡ (modelOf (now bytes)) .arity ((modelOf (now bytes)) .function o) ⌝ }
+    requires { ⌜ Prepared (now bytes) b (now scratch) ⌝ }
+    requires { ⌜ OfArity (modelOf (now bytes)) n m ⌝ }
+    requires { ⌜ OfArity (modelOf (now bytes)) n o ⌝ }
     ensures { λ r. ⌜ r ≡ asSpecific (modelOf (now (bytes .entry))) m o ⌝ }
 {
-    let mut i = 0;
-    while i < n {
-        if !under(
-            scratch,
-            specialiser(bytes, b, m, i),
-            specialiser(bytes, b, o, i),
-        ) {
-            return false;
-        }
-        i += 1;
-    }
-    true
+    let own = specialisers(bytes, b, n, m);
+    let other = specialisers(bytes, b, n, o);
+    each_under(scratch, own, other)
 }
 
 // Whether no other method of the list is at least as specific as method m.
@@ -52,20 +39,15 @@ fn unbeaten(
     f: usize,
     n: usize,
     list: &[usize],
-    count: usize,
     m: usize,
 ) -> bool
-    requires { ⌜ Opened (now bytes) b ⌝ }
-    requires { ⌜ Filled (modelOf (now bytes)) (now scratch) ⌝ }
-    requires { ⌜ n ≡ (modelOf (now bytes)) .arity f ⌝ }
-    requires { ⌜ count ≤ length (now list) ⌝ }
-    requires { ⌜ Listed (modelOf (now bytes)) f (take count (now list)) ⌝ }
-    requires { ⌜ m < b .methods ⌝ }
-    requires { ⌜ (modelOf (now bytes)) .function m ≡ f ⌝ }
-    ensures { λ r. ⌜ r ≡ unbeaten (modelOf (now (bytes .entry))) (take count (now (list .entry))) m ⌝ }
+    requires { ⌜ Prepared (now bytes) b (now scratch) ⌝ }
+    requires { ⌜ Candidates (modelOf (now bytes)) f n (now list) ⌝ }
+    requires { ⌜ OfArity (modelOf (now bytes)) n m ⌝ }
+    ensures { λ r. ⌜ r ≡ unbeaten (modelOf (now (bytes .entry))) (now (list .entry)) m ⌝ }
 {
     let mut i = 0;
-    while i < count {
+    while i < list.len() {
         let o = list[i];
         i += 1;
         if o == m {
@@ -86,22 +68,18 @@ fn rival(
     f: usize,
     n: usize,
     list: &[usize],
-    count: usize,
     k: usize,
 ) -> usize
-    requires { ⌜ Opened (now bytes) b ⌝ }
-    requires { ⌜ Filled (modelOf (now bytes)) (now scratch) ⌝ }
-    requires { ⌜ n ≡ (modelOf (now bytes)) .arity f ⌝ }
-    requires { ⌜ count ≤ length (now list) ⌝ }
-    requires { ⌜ Listed (modelOf (now bytes)) f (take count (now list)) ⌝ }
-    ensures { λ r. ⌜ r ≡ getD (rivals (modelOf (now (bytes .entry))) (take count (now (list .entry)))) k 0 ⌝ }
+    requires { ⌜ Prepared (now bytes) b (now scratch) ⌝ }
+    requires { ⌜ Candidates (modelOf (now bytes)) f n (now list) ⌝ }
+    ensures { λ r. ⌜ r ≡ getD (rivals (modelOf (now (bytes .entry))) (now (list .entry))) k 0 ⌝ }
 {
     let mut seen = 0;
     let mut i = 0;
-    while i < count {
+    while i < list.len() {
         let m = list[i];
         i += 1;
-        if !unbeaten(bytes, b, scratch, f, n, list, count, m) {
+        if !unbeaten(bytes, b, scratch, f, n, list, m) {
             continue;
         }
         if seen == k {
@@ -114,26 +92,22 @@ fn rival(
 
 // The position of a method that is at least as specific as the one held before it: where the search for the leader had best begin. Any position of the
 // list would do, since the search comes to every other.
-fn likely(
+fn first_candidate(
     bytes: &[u8],
     b: Bundle,
     scratch: &[u8],
     f: usize,
     n: usize,
     list: &[usize],
-    count: usize,
 ) -> usize
-    requires { ⌜ Opened (now bytes) b ⌝ }
-    requires { ⌜ Filled (modelOf (now bytes)) (now scratch) ⌝ }
-    requires { ⌜ n ≡ (modelOf (now bytes)) .arity f ⌝ }
-    requires { ⌜ count ≤ length (now list) ⌝ }
-    requires { ⌜ Listed (modelOf (now bytes)) f (take count (now list)) ⌝ }
-    requires { ⌜ 0 < count ⌝ }
-    ensures { λ r. ⌜ r < count ⌝ }
+    requires { ⌜ Prepared (now bytes) b (now scratch) ⌝ }
+    requires { ⌜ Candidates (modelOf (now bytes)) f n (now list) ⌝ }
+    requires { ⌜ 0 < length (now list) ⌝ }
+    ensures { λ r. ⌜ r < length (now (list .entry)) ⌝ }
 {
     let mut held = 0;
     let mut i = 1;
-    while i < count {
+    while i < list.len() {
         let k = i;
         i += 1;
         if !as_specific(bytes, b, scratch, n, list[k], list[held]) {
@@ -144,35 +118,24 @@ fn likely(
     held
 }
 
-// The method of the list that is at least as specific as every other: a candidate is dropped from the inner loop when one rival is not above it. The
-// likely one is tried first, then the list from its beginning; a list has no two leaders.
-pub fn select(
-    bytes: &[u8],
-    b: Bundle,
-    scratch: &[u8],
-    f: usize,
-    n: usize,
-    list: &[usize],
-    count: usize,
-) -> Found
-    requires { ⌜ Opened (now bytes) b ⌝ }
-    requires { ⌜ Filled (modelOf (now bytes)) (now scratch) ⌝ }
-    requires { ⌜ n ≡ (modelOf (now bytes)) .arity f ⌝ }
-    requires { ⌜ count ≤ length (now list) ⌝ }
-    requires { ⌜ Listed (modelOf (now bytes)) f (take count (now list)) ⌝ }
-    ensures { λ r. ⌜ foundOf r ≡ select (modelOf (now (bytes .entry))) (take count (now (list .entry))) ⌝ }
+// The leader of the list (M 5.3), or else its two lowest rivals: the inner loop leaves a candidate at the first method that it is not at least as specific as. The
+// first candidate is tried before the list from its beginning; a list has no two leaders.
+pub fn select(bytes: &[u8], b: Bundle, scratch: &[u8], f: usize, n: usize, list: &[usize]) -> Found
+    requires { ⌜ Prepared (now bytes) b (now scratch) ⌝ }
+    requires { ⌜ Candidates (modelOf (now bytes)) f n (now list) ⌝ }
+    ensures { λ r. ⌜ foundOf r ≡ select (modelOf (now (bytes .entry))) (now (list .entry)) ⌝ }
 {
-    if count == 0 {
+    if list.len() == 0 {
         return Found::Missing;
     }
-    let mut at = likely(bytes, b, scratch, f, n, list, count);
+    let mut at = first_candidate(bytes, b, scratch, f, n, list);
     let mut next = 0;
-    'candidates: while at < count {
+    'candidates: while at < list.len() {
         let m = list[at];
         at = next;
         next += 1;
         let mut j = 0;
-        while j < count {
+        while j < list.len() {
             let o = list[j];
             j += 1;
             if o == m {
@@ -184,7 +147,7 @@ pub fn select(
         }
         return Found::Method(m);
     }
-    let first = rival(bytes, b, scratch, f, n, list, count, 0);
-    let second = rival(bytes, b, scratch, f, n, list, count, 1);
+    let first = rival(bytes, b, scratch, f, n, list, 0);
+    let second = rival(bytes, b, scratch, f, n, list, 1);
     Found::Ambiguous(first, second)
 }

@@ -3,28 +3,20 @@
 use Prim.Native.Nat.{ℕ, zero, suc, _+_, _*_, _/_, _≤_, _<_}
 use native.Mathlib.Omega.{arith}
 use mathlib.Core.Path.{_≡_, sym, _∙_}
-use mathlib.Core.Bool.{Bool, true}
+use mathlib.Core.Bool.{true}
 use mathlib.Core.List.{List, [], _∷_}
 use lib.Dec.{ltb}
 use lib.ListN.{length, take, getD}
-use lib.Seq.{getD-take, getD-drop}
 use borrow.Author.Tests.{ltb-true}
 use Rattle.rules.specs.Bounded.{every}
 use Rattle.rules.specs.Bytes.{byte, part}
 use Rattle.rules.specs.Layout.{offset, places, tupleRule, classCount, listOffset, listLength, parentsOf, risesAbove, rises, classRule, arityOf, signatureAt, sigFunctionOf, sigTupleOf, signatureRule, methodAt, functionOf, specialiserTupleOf, declaredTupleOf, methodRule, bodyOffset, bodyLength, codeOf}
 use Rattle.rules.specs.Model.{arg, decode, modelOf, operandRule}
-use Rattle.rules.proofs.Lists.{and-left, and-right, every-mem, getD-mem}
-use Rattle.rules.proofs.Places.{parents-length, code-length, used-places-read, instructions-length, instructions-read, list-within, body-within, offset-within}
+use Rattle.rules.proofs.Lists.{and-left, and-right, every-place}
+use Rattle.rules.proofs.Places.{parents-length, code-length, used-places-read, instructions-length, instructions-read, list-within, body-within, offset-within, part-at}
 use Rattle.layout.specs.Opened.{Opened}
 use Rattle.layout.specs.declared.bundle.Bundle.{Bundle}
 use Rattle.layout.proofs.Opened.{rules-of, tables-of, wellformed-of, counts-of}
-
-part-read : (b : List ℕ) (at n i : ℕ) → i < n → getD (part b at n) i 0 ≡ byte b (at + i)
-unfolding part byte
-part-read b at n i h = rw (getD-take, getD-drop)
-
-every-at : {A : Type 0} (p : A → Bool) (xs : List A) (i : ℕ) (d : A) → every p xs ≡ true → i < length xs → p (getD xs i d) ≡ true
-every-at p xs i d e h = every-mem p xs e (getD-mem xs i d h)
 
 -- past its end a list reads 0, which is below every count but 0
 getD-below : (n : ℕ) → 0 < n → (xs : List ℕ) → every (λ c. ltb c n) xs ≡ true → (i : ℕ) → getD xs i 0 < n
@@ -56,31 +48,36 @@ module _ {b : List ℕ} {t : Bundle} (o : Opened b t) where
   unfolding tupleRule modelOf
   place-read n at i rule h =
       let same : byte b (at + i) ≡ getD (take n (part b at places)) i 0 =
-      sym (used-places-read (classCount b) n (part b at places) rule i ∙ part-read b at places i h) in
+      sym (used-places-read (classCount b) n (part b at places) rule i ∙ part-at b at places i h) in
       let counts = counts-of o in
       let below = getD-below (classCount b) (wellformed-of o .classes-some) (take n (part b at places)) (search (and-left, and-right)) i in
       (same, omega arith)
 
   pub sig-arg-read : (s i : ℕ) → s < t .signatures → i < places
-      → let x = byte b (t .«signature_at» + 5 * s + 1 + i) in (x ≡ getD (modelOf b .sigArgs s) i 0) × (x < t .classes)
-  unfolding modelOf sigTupleOf signatureAt signatureRule
+      → let x = byte b (signatureAt b s + 1 + i) in (x ≡ getD (modelOf b .sigArgs s) i 0) × (x < t .classes)
+  unfolding modelOf sigTupleOf signatureRule
   sig-arg-read s i h k =
       let rule : signatureRule b s ≡ true = rules-of o .ofSignature s (omega (arith, counts-of o)) in
-      rw (tables-of o .signature-at) (place-read (arityOf b (sigFunctionOf b s)) (offset b 3 + 5 * s + 1) i (search (and-left, and-right)) k)
+      place-read (arityOf b (sigFunctionOf b s)) (signatureAt b s + 1) i (search (and-left, and-right)) k
+
+  -- the places of method m from byte `at` of its record on, where its rule has a tuple there
+  method-place : (m at i : ℕ) → m < t .methods → i < places
+      → (methodRule b m ≡ true → tupleRule (classCount b) (arityOf b (functionOf b m)) (part b (methodAt b m + at) places) ≡ true)
+      → let x = byte b (methodAt b m + at + i) in
+      (x ≡ getD (take (arityOf b (functionOf b m)) (part b (methodAt b m + at) places)) i 0) × (x < t .classes)
+  unfolding modelOf
+  method-place m at i h k tuple =
+      place-read (arityOf b (functionOf b m)) (methodAt b m + at) i (tuple (rules-of o .ofMethod m (omega (arith, counts-of o)))) k
 
   pub specialiser-read : (m i : ℕ) → m < t .methods → i < places
-      → let x = byte b (t .«method_at» + 12 * m + 1 + i) in (x ≡ getD (modelOf b .specialisers m) i 0) × (x < t .classes)
-  unfolding modelOf specialiserTupleOf methodAt methodRule
-  specialiser-read m i h k =
-      let rule : methodRule b m ≡ true = rules-of o .ofMethod m (omega (arith, counts-of o)) in
-      rw (tables-of o .method-at) (place-read (arityOf b (functionOf b m)) (offset b 4 + 12 * m + 1) i (search (and-left, and-right) depth 9) k)
+      → let x = byte b (methodAt b m + 1 + i) in (x ≡ getD (modelOf b .specialisers m) i 0) × (x < t .classes)
+  unfolding modelOf specialiserTupleOf methodRule
+  specialiser-read m i h k = method-place m 1 i h k (λ rule. search (and-left, and-right) depth 9)
 
   pub declared-read : (m i : ℕ) → m < t .methods → i < places
-      → let x = byte b (t .«method_at» + 12 * m + 4 + i) in (x ≡ getD (modelOf b .declared m) i 0) × (x < t .classes)
-  unfolding modelOf declaredTupleOf methodAt methodRule
-  declared-read m i h k =
-      let rule : methodRule b m ≡ true = rules-of o .ofMethod m (omega (arith, counts-of o)) in
-      rw (tables-of o .method-at) (place-read (arityOf b (functionOf b m)) (offset b 4 + 12 * m + 4) i (search (and-left, and-right) depth 9) k)
+      → let x = byte b (methodAt b m + (1 + places) + i) in (x ≡ getD (modelOf b .declared m) i 0) × (x < t .classes)
+  unfolding modelOf declaredTupleOf methodRule
+  declared-read m i h k = method-place m (1 + places) i h k (λ rule. search (and-left, and-right) depth 9)
 
   pub parents-counted : (c : ℕ) → c < t .classes → length (modelOf b .parents c) ≡ listLength b c
   unfolding modelOf
@@ -107,8 +104,8 @@ module _ {b : List ℕ} {t : Bundle} (o : Opened b t) where
     unfolding modelOf parentsOf
     parent-read =
         let same : byte b (offset b 1 + listOffset b c + i) ≡ getD (parentsOf b c) i 0 =
-        sym (part-read b (offset b 1 + listOffset b c) (listLength b c) i (omega (arith, parents-counted c h))) in
-        let lower = every-at (λ p. ltb p c) (parentsOf b c) i 0 (wellformed-of o .parents-lower c (omega (arith, counts-of o))) k in
+        sym (part-at b (offset b 1 + listOffset b c) (listLength b c) i (omega (arith, parents-counted c h))) in
+        let lower = every-place (λ p. ltb p c) (parentsOf b c) 0 (wellformed-of o .parents-lower c (omega (arith, counts-of o))) i k in
         rw (tables-of o .parent-at) (same, omega (arith, ltb-true (getD (parentsOf b c) i 0) c lower))
 
   -- two bytes to an instruction
@@ -129,12 +126,12 @@ module _ {b : List ℕ} {t : Bundle} (o : Opened b t) where
         let tables = tables-of o in
         let counts = counts-of o in
         let inside : 2 * i + 1 < bodyLength b m = omega (arith, body-counted m h) in
-        let operation = part-read b (offset b 5 + bodyOffset b m) (bodyLength b m) (2 * i) (omega arith) in
-        let operand = part-read b (offset b 5 + bodyOffset b m) (bodyLength b m) (2 * i + 1) inside in
+        let operation = part-at b (offset b 5 + bodyOffset b m) (bodyLength b m) (2 * i) (omega arith) in
+        let operand = part-at b (offset b 5 + bodyOffset b m) (bodyLength b m) (2 * i + 1) inside in
         let next : offset b 5 + bodyOffset b m + (2 * i + 1) ≡ offset b 5 + bodyOffset b m + 2 * i + 1 = omega arith in
         cc (instructions-read (codeOf b m) i (arg 0) (omega (arith, code-length b (rules-of o) m (omega arith))))
 
     pub operand-kept : operandRule (modelOf b) (modelOf b .arity (modelOf b .function m)) (getD (modelOf b .body m) i (arg 0)) ≡ true
     operand-kept =
-        every-at (operandRule (modelOf b) (modelOf b .arity (modelOf b .function m))) (modelOf b .body m) i (arg 0)
-        (wellformed-of o .body-operands m (omega (arith, counts-of o))) k
+        every-place (operandRule (modelOf b) (modelOf b .arity (modelOf b .function m))) (modelOf b .body m) (arg 0)
+        (wellformed-of o .body-operands m (omega (arith, counts-of o))) i k

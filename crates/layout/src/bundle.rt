@@ -4,7 +4,6 @@ use crate::directory::section_len;
 ghost use mathlib.Core.Path.{_≡_};
 ghost use Prim.Native.Nat.{_<_, _≤_, _/_};
 ghost use lib.ListN.{length};
-ghost use Rattle.rules.specs.Layout.{limitRule};
 ghost use Rattle.layout.specs.Tables.{Tables, Counted, bundleOf};
 
 // A section of records: where it begins, and how many there are.
@@ -42,7 +41,7 @@ pub struct Bundle {
 }
 
 impl Bundle {
-    // "1 to 128 classes, at most 64 functions, 256 signatures, 512 methods, 3 arguments"
+    // The limits of a bundle (M 2.3).
     pub const CLASSES: usize = 128;
 
     pub const FUNCTIONS: usize = 64;
@@ -52,6 +51,23 @@ impl Bundle {
     pub const METHODS: usize = 512;
 
     pub const PLACES: usize = 3;
+
+    // The bytes of a record, and where a record has what stands after its places.
+    pub const CLASS_BYTES: usize = 6;
+
+    pub const SIGNATURE_BYTES: usize = 2 + Self::PLACES;
+
+    pub const SIGNATURE_RESULT: usize = 1 + Self::PLACES;
+
+    pub const METHOD_BYTES: usize = 6 + 2 * Self::PLACES;
+
+    pub const METHOD_DECLARED: usize = 1 + Self::PLACES;
+
+    pub const METHOD_RESULT: usize = 1 + 2 * Self::PLACES;
+
+    pub const METHOD_BODY: usize = 2 + 2 * Self::PLACES;
+
+    pub const METHOD_BODY_LENGTH: usize = 4 + 2 * Self::PLACES;
 
     // The bundle whose six sections are counted.
     pub fn new(
@@ -85,32 +101,12 @@ impl Bundle {
         requires { ⌜ 24 ≤ length (now bytes) ⌝ }
         ensures { λ r. ⌜ Tables (now (bytes .entry)) r ⌝ }
     {
-        let classes = counted(bytes, 0, 6);
+        let classes = counted(bytes, 0, Self::CLASS_BYTES);
         let parents = counted(bytes, 1, 1);
         let functions = counted(bytes, 2, 1);
-        let signatures = counted(bytes, 3, 5);
-        let methods = counted(bytes, 4, 12);
+        let signatures = counted(bytes, 3, Self::SIGNATURE_BYTES);
+        let methods = counted(bytes, 4, Self::METHOD_BYTES);
         let code = counted(bytes, 5, 1);
         Bundle::new(classes, parents, functions, signatures, methods, code)
-    }
-
-    // Whether no count passes its limit, and there is a class.
-    pub fn within_limits(self, bytes: &[u8]) -> bool
-        requires { ⌜ Tables (now bytes) self ⌝ }
-        ensures { λ r. ⌜ r ≡ limitRule (now (bytes .entry)) ⌝ }
-    {
-        if self.classes == 0 {
-            return false;
-        }
-        if self.classes > Self::CLASSES {
-            return false;
-        }
-        if self.functions > Self::FUNCTIONS {
-            return false;
-        }
-        if self.signatures > Self::SIGNATURES {
-            return false;
-        }
-        self.methods <= Self::METHODS
     }
 }

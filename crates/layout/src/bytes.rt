@@ -19,7 +19,7 @@ pub fn byte_at(bytes: &[u8], at: usize) -> usize
     wide(bytes[at])
 }
 
-// The two-byte number at a place: "little-endian".
+// The two-byte number at a place, its low byte first.
 pub fn word_at(bytes: &[u8], at: usize) -> usize
     requires { ⌜ at + 1 < length (now bytes) ⌝ }
     ensures { λ r. ⌜ (r ≡ word (now (bytes .entry)) at) × (r < 65536) ⌝ }

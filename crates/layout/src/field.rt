@@ -10,8 +10,10 @@ use crate::record::kind;
 use crate::record::list_length;
 use crate::record::list_offset;
 use crate::record::method_function;
+use crate::record::method_record;
 use crate::record::method_result;
 use crate::record::signature_function;
+use crate::record::signature_record;
 use crate::record::signature_result;
 ghost use mathlib.Core.Path.{_≡_};
 ghost use mathlib.Core.Bool.{true};
@@ -76,7 +78,7 @@ pub fn sig_arg(bytes: &[u8], b: Bundle, s: usize, place: usize) -> usize
     requires { ⌜ place < places ⌝ }
     ensures { λ r. ⌜ (r ≡ getD (modelOf (now (bytes .entry)) .sigArgs s) place 0) × (r < b .classes) ⌝ }
 {
-    byte_at(bytes, b.signature_at + 5 * s + 1 + place)
+    byte_at(bytes, signature_record(bytes, b, s) + 1 + place)
 }
 
 // The result class of signature s.
@@ -104,7 +106,7 @@ pub fn specialiser(bytes: &[u8], b: Bundle, m: usize, place: usize) -> usize
     requires { ⌜ place < places ⌝ }
     ensures { λ r. ⌜ (r ≡ getD (modelOf (now (bytes .entry)) .specialisers m) place 0) × (r < b .classes) ⌝ }
 {
-    byte_at(bytes, b.method_at + 12 * m + 1 + place)
+    byte_at(bytes, method_record(bytes, b, m) + 1 + place)
 }
 
 // The declared class of method m at a place, 0 where the place is unused.
@@ -114,7 +116,10 @@ pub fn declared(bytes: &[u8], b: Bundle, m: usize, place: usize) -> usize
     requires { ⌜ place < places ⌝ }
     ensures { λ r. ⌜ (r ≡ getD (modelOf (now (bytes .entry)) .declared m) place 0) × (r < b .classes) ⌝ }
 {
-    byte_at(bytes, b.method_at + 12 * m + 4 + place)
+    byte_at(
+        bytes,
+        method_record(bytes, b, m) + Bundle::METHOD_DECLARED + place,
+    )
 }
 
 // The result class of method m.

@@ -3,7 +3,7 @@ ghost use mathlib.Core.Path.{_≡_};
 ghost use Rattle.rules.specs.Model.{decode};
 ghost use Rattle.layout.specs.Instruction.{instr};
 
-// "0 is ARG (operand an argument place, counted from 0), 1 is NEW (a class), 2 is SEND (a function)."
+// What an operation and its operand say (M 2.8).
 pub enum Instruction {
     Arg(usize),
     New(usize),

@@ -3,10 +3,38 @@ use crate::bundle::Bundle;
 use crate::bytes::byte_at;
 use crate::bytes::word_at;
 ghost use mathlib.Core.Path.{_≡_};
-ghost use Prim.Native.Nat.{_+_, _<_};
+ghost use Prim.Native.Nat.{_+_, _<_, _≤_};
+ghost use lib.ListN.{length};
 ghost use Rattle.rules.specs.Bytes.{byte};
-ghost use Rattle.rules.specs.Layout.{classAt, kindOf, listOffset, listLength, arityOf, sigFunctionOf, sigResultOf, functionOf, resultOf, bodyOffset, bodyLength};
+ghost use Rattle.rules.specs.Layout.{classAt, classBytes, kindOf, listOffset, listLength, arityOf, signatureAt, signatureBytes, sigFunctionOf, sigResultOf, methodAt, methodBytes, functionOf, resultOf, bodyOffset, bodyLength};
 ghost use Rattle.layout.specs.Tables.{Placed};
+
+// Where the record of class c begins.
+pub fn class_record(bytes: &[u8], b: Bundle, c: usize) -> usize
+    requires { ⌜ Placed (now bytes) b ⌝ }
+    requires { ⌜ c < b .classes ⌝ }
+    ensures { λ r. ⌜ (r ≡ classAt (now (bytes .entry)) c) × (r + classBytes ≤ length (now (bytes .entry))) ⌝ }
+{
+    b.class_at + Bundle::CLASS_BYTES * c
+}
+
+// Where the record of signature s begins.
+pub fn signature_record(bytes: &[u8], b: Bundle, s: usize) -> usize
+    requires { ⌜ Placed (now bytes) b ⌝ }
+    requires { ⌜ s < b .signatures ⌝ }
+    ensures { λ r. ⌜ (r ≡ signatureAt (now (bytes .entry)) s) × (r + signatureBytes ≤ length (now (bytes .entry))) ⌝ }
+{
+    b.signature_at + Bundle::SIGNATURE_BYTES * s
+}
+
+// Where the record of method m begins.
+pub fn method_record(bytes: &[u8], b: Bundle, m: usize) -> usize
+    requires { ⌜ Placed (now bytes) b ⌝ }
+    requires { ⌜ m < b .methods ⌝ }
+    ensures { λ r. ⌜ (r ≡ methodAt (now (bytes .entry)) m) × (r + methodBytes ≤ length (now (bytes .entry))) ⌝ }
+{
+    b.method_at + Bundle::METHOD_BYTES * m
+}
 
 // The kind of class c.
 pub fn kind(bytes: &[u8], b: Bundle, c: usize) -> usize
@@ -14,7 +42,7 @@ pub fn kind(bytes: &[u8], b: Bundle, c: usize) -> usize
     requires { ⌜ c < b .classes ⌝ }
     ensures { λ r. ⌜ r ≡ kindOf (now (bytes .entry)) c ⌝ }
 {
-    byte_at(bytes, b.class_at + 6 * c)
+    byte_at(bytes, class_record(bytes, b, c))
 }
 
 // Where the parent list of class c begins in the parents section.
@@ -23,7 +51,7 @@ pub fn list_offset(bytes: &[u8], b: Bundle, c: usize) -> usize
     requires { ⌜ c < b .classes ⌝ }
     ensures { λ r. ⌜ (r ≡ listOffset (now (bytes .entry)) c) × (r < 65536) ⌝ }
 {
-    word_at(bytes, b.class_at + 6 * c + 2)
+    word_at(bytes, class_record(bytes, b, c) + 2)
 }
 
 // How many parents class c has.
@@ -32,7 +60,7 @@ pub fn list_length(bytes: &[u8], b: Bundle, c: usize) -> usize
     requires { ⌜ c < b .classes ⌝ }
     ensures { λ r. ⌜ (r ≡ listLength (now (bytes .entry)) c) × (r < 65536) ⌝ }
 {
-    word_at(bytes, b.class_at + 6 * c + 4)
+    word_at(bytes, class_record(bytes, b, c) + 4)
 }
 
 // How many arguments function f has.
@@ -50,7 +78,7 @@ pub fn signature_function(bytes: &[u8], b: Bundle, s: usize) -> usize
     requires { ⌜ s < b .signatures ⌝ }
     ensures { λ r. ⌜ r ≡ sigFunctionOf (now (bytes .entry)) s ⌝ }
 {
-    byte_at(bytes, b.signature_at + 5 * s)
+    byte_at(bytes, signature_record(bytes, b, s))
 }
 
 // The result class of signature s.
@@ -59,7 +87,10 @@ pub fn signature_result(bytes: &[u8], b: Bundle, s: usize) -> usize
     requires { ⌜ s < b .signatures ⌝ }
     ensures { λ r. ⌜ r ≡ sigResultOf (now (bytes .entry)) s ⌝ }
 {
-    byte_at(bytes, b.signature_at + 5 * s + 4)
+    byte_at(
+        bytes,
+        signature_record(bytes, b, s) + Bundle::SIGNATURE_RESULT,
+    )
 }
 
 // The function of method m.
@@ -68,7 +99,7 @@ pub fn method_function(bytes: &[u8], b: Bundle, m: usize) -> usize
     requires { ⌜ m < b .methods ⌝ }
     ensures { λ r. ⌜ r ≡ functionOf (now (bytes .entry)) m ⌝ }
 {
-    byte_at(bytes, b.method_at + 12 * m)
+    byte_at(bytes, method_record(bytes, b, m))
 }
 
 // The result class of method m.
@@ -77,7 +108,7 @@ pub fn method_result(bytes: &[u8], b: Bundle, m: usize) -> usize
     requires { ⌜ m < b .methods ⌝ }
     ensures { λ r. ⌜ r ≡ resultOf (now (bytes .entry)) m ⌝ }
 {
-    byte_at(bytes, b.method_at + 12 * m + 7)
+    byte_at(bytes, method_record(bytes, b, m) + Bundle::METHOD_RESULT)
 }
 
 // Where the body of method m begins in the code section.
@@ -86,7 +117,7 @@ pub fn body_offset(bytes: &[u8], b: Bundle, m: usize) -> usize
     requires { ⌜ m < b .methods ⌝ }
     ensures { λ r. ⌜ (r ≡ bodyOffset (now (bytes .entry)) m) × (r < 65536) ⌝ }
 {
-    word_at(bytes, b.method_at + 12 * m + 8)
+    word_at(bytes, method_record(bytes, b, m) + Bundle::METHOD_BODY)
 }
 
 // How many bytes the body of method m has.
@@ -95,7 +126,10 @@ pub fn body_length(bytes: &[u8], b: Bundle, m: usize) -> usize
     requires { ⌜ m < b .methods ⌝ }
     ensures { λ r. ⌜ (r ≡ bodyLength (now (bytes .entry)) m) × (r < 65536) ⌝ }
 {
-    word_at(bytes, b.method_at + 12 * m + 10)
+    word_at(
+        bytes,
+        method_record(bytes, b, m) + Bundle::METHOD_BODY_LENGTH,
+    )
 }
 
 // The byte after the kind of class c.
@@ -104,5 +138,5 @@ pub fn filler(bytes: &[u8], b: Bundle, c: usize) -> usize
     requires { ⌜ c < b .classes ⌝ }
     ensures { λ r. ⌜ r ≡ byte (now (bytes .entry)) (classAt (now (bytes .entry)) c + 1) ⌝ }
 {
-    byte_at(bytes, b.class_at + 6 * c + 1)
+    byte_at(bytes, class_record(bytes, b, c) + 1)
 }

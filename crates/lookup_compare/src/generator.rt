@@ -2,7 +2,7 @@
 ghost use Prim.Native.Nat.{_<_};
 
 // A number below the limit. The state goes through the numbers of 32 bits, and its upper half is used, since the lower bits soon repeat.
-pub fn draw(state: &mut u64, limit: usize) -> usize
+pub(crate) fn draw(state: &mut u64, limit: usize) -> usize
     requires { ⌜ 0 < limit ⌝ }
     ensures { λ r. ⌜ r < limit ⌝ }
 {
@@ -12,7 +12,7 @@ pub fn draw(state: &mut u64, limit: usize) -> usize
 }
 
 // Whether a chance of one in so many comes up.
-pub fn comes_up(state: &mut u64, chance: usize) -> bool
+pub(crate) fn comes_up(state: &mut u64, chance: usize) -> bool
     requires { ⌜ 0 < chance ⌝ }
 {
     draw(state, chance) == 0

@@ -39,11 +39,11 @@ fn get(space: &[u8], at: usize) -> usize {
 }
 
 // How large a bundle is, and how dense its inheritance: beside one sure parent each lower class is a parent by a chance of one in so many.
-pub struct Plan {
-    pub classes: usize,
-    pub functions: usize,
-    pub methods: usize,
-    pub chance: usize,
+pub(crate) struct Plan {
+    pub(crate) classes: usize,
+    pub(crate) functions: usize,
+    pub(crate) methods: usize,
+    pub(crate) chance: usize,
 }
 
 // Writes the parents of a class in rising order, and answers where they end. Class 0 has none.
@@ -273,7 +273,7 @@ fn put_directory(space: &mut [u8], sections: Sections) {
 }
 
 // Writes a bundle to the start of space, and answers its length.
-pub fn make(space: &mut [u8], state: &mut u64, plan: Plan) -> usize
+pub(crate) fn make(space: &mut [u8], state: &mut u64, plan: Plan) -> usize
     requires { ⌜ 0 < plan .functions ⌝ }
     requires { ⌜ 0 < plan .classes ⌝ }
     requires { ⌜ plan .classes ≤ 128 ⌝ }

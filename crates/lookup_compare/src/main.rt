@@ -1,30 +1,41 @@
 // Makes bundles and compares the library with the second implementation on them: every function with every tuple of classes, abstract ones too, and
 // every pair of classes; in large bundles only the tuples of a stride. The scratch is compared once in each bundle.
+mod ancestry;
+mod answer;
 mod generator;
+mod lookup;
 mod made;
+mod matrix;
+mod print;
+mod question;
+mod record;
 
-use answers::Question;
-use cases::Answer;
-use cases::Tally;
+use answer::Answer;
+use bundle_rules::finding::Opening;
 use curiumtoad::opening::open;
 use generator::draw;
-use layout::finding::Opening;
-use libc::STDOUT_FILENO;
 use made::Plan;
 use made::make;
-use second_lookup::record::arity;
-use second_lookup::record::class_count;
-use second_lookup::record::function_count;
-use second_lookup::scratch;
+use matrix::SCRATCH;
+use matrix::UNWRITTEN;
+use matrix::is_matrix;
+use print::print;
+use print::print_count;
+use question::Question;
+use record::arity;
+use record::class_count;
+use record::function_count;
 ghost use Prim.Native.Nat.{_<_, _≤_};
 
 const BUNDLES: usize = 64;
 
-// Calls and bundles so far; a bundle differs where it does not open. The rest says how often each kind of answer came, so that a comparison in which a
-// kind is missing shows.
+// Calls and bundles so far, the calls that differ and the bundles that do not open. The rest says how often each kind of answer came, so that a
+// comparison in which a kind is missing shows.
 struct Totals {
-    calls: Tally,
-    bundles: Tally,
+    calls: u64,
+    differing: u64,
+    bundles: u64,
+    unopened: u64,
     found: u64,
     missing: u64,
     ambiguous: u64,
@@ -42,8 +53,10 @@ fn one_more(count: u64, is_more: bool) -> u64 {
 impl Totals {
     fn new() -> Totals {
         Totals {
-            calls: Tally::new(),
-            bundles: Tally::new(),
+            calls: 0,
+            differing: 0,
+            bundles: 0,
+            unopened: 0,
             found: 0,
             missing: 0,
             ambiguous: 0,
@@ -53,11 +66,11 @@ impl Totals {
     }
 
     fn with_bundle(self, opens: bool) -> Totals {
-        let bundles = self.bundles;
-        let calls = self.calls;
         Totals {
-            calls,
-            bundles: bundles.counted(opens),
+            calls: self.calls,
+            differing: self.differing,
+            bundles: one_more(self.bundles, true),
+            unopened: one_more(self.unopened, !opens),
             found: self.found,
             missing: self.missing,
             ambiguous: self.ambiguous,
@@ -67,60 +80,49 @@ impl Totals {
     }
 
     fn with_call(self, question: Question, got: Answer, is_same: bool) -> Totals {
-        let calls = self.calls;
-        let bundles = self.bundles;
-        let values = got.values;
         let is_lookup = question.is_lookup;
         let answers = got.number == 0;
         Totals {
-            calls: calls.counted(is_same),
-            bundles,
+            calls: one_more(self.calls, true),
+            differing: one_more(self.differing, !is_same),
+            bundles: self.bundles,
+            unopened: self.unopened,
             found: one_more(self.found, is_lookup && answers),
             missing: one_more(self.missing, got.number == 10),
             ambiguous: one_more(self.ambiguous, got.number == 11),
-            under: one_more(self.under, !is_lookup && answers && values[0] == 1),
-            apart: one_more(self.apart, !is_lookup && answers && values[0] == 0),
+            under: one_more(self.under, !is_lookup && answers && got.first == 1),
+            apart: one_more(self.apart, !is_lookup && answers && got.first == 0),
         }
     }
 
     fn print(self) {
-        let calls = self.calls;
-        let bundles = self.bundles;
-        print_count(b"lookup compared ", calls.cases);
-        print_count(b" differing ", calls.differing);
-        print_count(b" bundles ", bundles.cases);
-        print_count(b" unopened ", bundles.differing);
-        cases::print_line_end();
-        print_count(b"found ", self.found);
+        print_count(b"lookup compared ", self.calls);
+        print_count(b" differing ", self.differing);
+        print_count(b" bundles ", self.bundles);
+        print_count(b" unopened ", self.unopened);
+        print_count(b"\nfound ", self.found);
         print_count(b" missing ", self.missing);
         print_count(b" ambiguous ", self.ambiguous);
         print_count(b" under ", self.under);
         print_count(b" apart ", self.apart);
-        cases::print_line_end();
+        print(b"\n");
     }
-}
-
-fn print_count(name: &[u8], count: u64) {
-    io::write_all(STDOUT_FILENO, name);
-    io::print_decimal(STDOUT_FILENO, count);
 }
 
 // The first call that differs: its number, the bundle it is put to, in what it differs, what is asked, and both answers.
 fn print_first(totals: Totals, what: &[u8], question: Question, got: Answer, second: Answer) {
-    let calls = totals.calls;
-    let bundles = totals.bundles;
-    if calls.differing > 0 {
+    if totals.differing > 0 {
         return;
     }
-    print_count(b"differs ", calls.cases);
-    print_count(b" bundle ", bundles.cases);
-    cases::print_note(what);
+    print_count(b"differs ", totals.calls);
+    print_count(b" bundle ", totals.bundles);
+    print(what);
     question.print();
-    cases::print_note(b" got");
+    print(b" got");
     got.print();
-    cases::print_note(b" second");
+    print(b" second");
     second.print();
-    cases::print_line_end();
+    print(b"\n");
 }
 
 fn compare(bundle: &[u8], scratch: &mut [u8], question: Question, totals: Totals) -> Totals {
@@ -167,24 +169,12 @@ fn stride(classes: usize, arity: usize) -> usize
 
 // The question that a tuple's number stands for.
 fn question_of(is_lookup: bool, function: usize, tuple: usize) -> Question {
-    let a0 = tuple % 128;
-    let a1 = tuple / 128 % 128;
-    let a2 = tuple / 16384;
-    if is_lookup {
-        return Question {
-            is_lookup,
-            n0: function,
-            n1: a0,
-            n2: a1,
-            n3: a2,
-        };
-    }
     Question {
         is_lookup,
-        n0: a0,
-        n1: a1,
-        n2: 0,
-        n3: 0,
+        function,
+        a0: tuple % 128,
+        a1: tuple / 128 % 128,
+        a2: tuple / 16384,
     }
 }
 
@@ -235,11 +225,11 @@ fn compare_functions(bundle: &[u8], scratch: &mut [u8], totals: Totals) -> Total
 }
 
 // A scratch that differs counts as a call that does.
-fn compare_scratch(bundle: &[u8], scratch: &mut [u8], totals: Totals) -> Totals {
+fn compare_scratch(bundle: &[u8], totals: Totals) -> Totals {
     let question = question_of(false, 0, 0);
-    scratch::fill(scratch);
-    let got = question.answer(bundle, scratch);
-    let is_same = scratch::is_matrix(bundle, scratch);
+    let mut scratch = [UNWRITTEN; SCRATCH];
+    let got = question.answer(bundle, &mut scratch);
+    let is_same = is_matrix(bundle, &scratch);
     if !is_same {
         print_first(
             totals,
@@ -263,7 +253,7 @@ fn compare_bundle(bundle: &[u8], scratch: &mut [u8], totals: Totals) -> Totals {
     if !opens(bundle) {
         return totals.with_bundle(false);
     }
-    let mut totals = compare_scratch(bundle, scratch, totals);
+    let mut totals = compare_scratch(bundle, totals);
     totals = compare_tuples(bundle, scratch, false, 0, 2, totals);
     totals = compare_functions(bundle, scratch, totals);
     totals.with_bundle(true)
@@ -319,6 +309,6 @@ fn compare_all(space: &mut [u8], scratch: &mut [u8]) -> Totals {
 
 fn main() {
     let mut space = io::large_buffer();
-    let mut scratch = scratch::space();
+    let mut scratch = [UNWRITTEN; SCRATCH];
     compare_all(&mut space, &mut scratch).print();
 }

@@ -2,4 +2,5 @@ pub mod Stores
 pub mod Ended
 pub mod Sends
 pub mod Passes
+pub mod Steps
 pub mod Runs

@@ -7,19 +7,25 @@ use native.Mathlib.Omega.{arith}
 use mathlib.Core.Path.{_≡_, refl, sym, ap, ap₂, _∙_}
 use mathlib.Core.Bool.{true, false}
 use mathlib.Core.Logic.{_⊎_, inl, inr}
-use mathlib.Core.List.{List, [], _∷_}
+use mathlib.Core.List.{List, [], _∷_, _++_, reverse, reverse-cons}
 use lib.Dec.{ltb}
 use lib.ListN.{length, getD, take, drop, set, length-set, length-drop}
-use lib.Seq.{getD-set-same, getD-take, length-take-le}
+use lib.Seq.{getD-set-same, getD-drop, take-suc, take-set-le}
 use borrow.Author.Tests.{ltb-true, lt-ltb, le-leb, lt-leb}
 use Rattle.rules.specs.Bounded.{every}
-use Rattle.rules.specs.Layout.{places, tupleRule}
+use Rattle.rules.specs.Bytes.{byte, part}
+use Rattle.rules.specs.Layout.{places, padded}
 use Rattle.rules.specs.Model.{Model, Wellformed, present, arg, new, send}
 use Rattle.rules.specs.Types.{arguments}
-use Rattle.rules.specs.Machine.{Frame, push, after, land, call, turn, made, failed, stopped, stoppedAt, maxFrames}
-use Rattle.rules.proofs.Lists.{and-left, and-right, and-both, every-place}
-use Rattle.machine.specs.Held.{methodAt, nextAt, heightAt, tupleAt, stackFrom, frame, frameOf, callersOf, landed, split, turnAt, Sound, Waiting, waiting, Held, held, Going, going, Sending, sending, raised, laid, passed, lowered, gathered}
-use Rattle.machine.proofs.Stores.{length-stack, drop-stack, kept, kept-below, callers-same, waiting-same, numbers-of, sound-of, waiting-of, waits-of, waiting-long, waiting-wide, pushed-frame, pushed-callers, pushed-waiting, lowered-frame}
+use Rattle.rules.specs.Machine.{Frame, push, after, resume, call, turn, made, failed, stopped, stoppedAt, maxFrames}
+use Rattle.rules.proofs.Lists.{and-left, and-right, and-both, every-places}
+use Rattle.rules.proofs.Places.{part-at, part-length}
+use Rattle.rules.proofs.Tuples.{padded-read}
+use Rattle.dispatch.specs.Places.{Arguments}
+use Rattle.dispatch.proofs.Asked.{class-below}
+use Rattle.frames.specs.Arrays.{frameNumbers, frameBytes, stackRoom, methodAt, nextAt, heightAt, stackAt, HasFrame, raised, laid, lowered, passed}
+use Rattle.machine.specs.Held.{stackFrom, frameOf, callersOf, resumed, split, turnAt, FrameFits, Waiting, waiting, Held, held, Going, going}
+use Rattle.machine.proofs.Stores.{length-stack, drop-stack, take-stack, kept, frame-of, callers-same, waiting-same, numbers-of, fits-of, waiting-of, waits-of, StackRoom, pushed-frame, pushed-callers, lowered-frame}
 
 pub held-of : {M : Model} {fs vs : List ℕ} {k : ℕ} → Going M fs vs k → Held M fs vs k
 held-of (going l h) = h
@@ -28,34 +34,34 @@ pub left-of : {M : Model} {fs vs : List ℕ} {k : ℕ} → Going M fs vs k → n
 left-of (going l h) = l
 
 -- a store to the numbers of frame k leaves the frames below
-module _ (M : Model) (fs vs : List ℕ) (k at v : ℕ) (h : 6 * k ≤ at) (w : Waiting M fs vs k) where
-  stored-callers : callersOf M (set fs at v) vs k ≡ callersOf M fs vs k
-  stored-callers = callers-same M fs (set fs at v) vs vs k (kept-below fs at v (6 * k) h) (λ i l. refl) (waits-of w)
+stored : (M : Model) (fs vs : List ℕ) (k at v : ℕ) → frameNumbers * k ≤ at → Waiting M fs vs k
+    → (callersOf M (set fs at v) vs k ≡ callersOf M fs vs k) × Waiting M (set fs at v) vs k
+stored M fs vs k at v h w =
+    let same = take-set-le (frameNumbers * k) fs at v h in
+    (callers-same M fs (set fs at v) vs vs k same refl (waits-of w), waiting-same M fs (set fs at v) vs vs k same refl (length-set fs at v) refl w)
 
-  stored-waiting : Waiting M (set fs at v) vs k
-  stored-waiting = waiting-same M fs (set fs at v) vs vs k (kept-below fs at v (6 * k) h) (λ i l. refl) (length-set fs at v) refl w
+-- one more frame waits
+waiting-more : (M : Model) (fs vs : List ℕ) (k : ℕ) → k < maxFrames → FrameFits M 1 (frameOf M fs vs k) → Waiting M fs vs k → Waiting M fs vs (suc k)
+unfolding callersOf
+waiting-more M fs vs k h s (waiting p q l w) = waiting p q h (s, w)
 
-passed-frame : (M : Model) (fs vs : List ℕ) (k : ℕ) → k < maxFrames → 192 ≤ length fs
+passed-frame : (M : Model) (fs vs : List ℕ) (k : ℕ) → HasFrame fs k
     → frameOf M (passed fs k) vs k ≡ after (split M (frameOf M fs vs k)) (frameOf M fs vs k .stack)
 unfolding frameOf split after
-passed-frame M fs vs k few p =
-    let n : nextAt (passed fs k) k ≡ suc (nextAt fs k) = getD-set-same fs (6 * k + 1) (nextAt fs k + 1) 0 (omega arith) ∙ add-one (nextAt fs k) in
-    rw (
-      kept fs (6 * k + 1) (nextAt fs k + 1) (6 * k) (λ e. omega arith),
-      kept fs (6 * k + 1) (nextAt fs k + 1) (6 * k + 2) (λ e. omega arith),
-      kept fs (6 * k + 1) (nextAt fs k + 1) (6 * k + 3) (λ e. omega arith),
-      kept fs (6 * k + 1) (nextAt fs k + 1) (6 * k + 4) (λ e. omega arith),
-      kept fs (6 * k + 1) (nextAt fs k + 1) (6 * k + 5) (λ e. omega arith),
-      n,
-    )
+passed-frame M fs vs k f =
+    let at = frameNumbers * k in
+    frame-of M (passed fs k) vs k (kept fs (at + 1) (nextAt fs k + 1) at (λ e. omega arith))
+    (getD-set-same fs (at + 1) (nextAt fs k + 1) 0 (omega arith) ∙ add-one (nextAt fs k))
+    (kept fs (at + 1) (nextAt fs k + 1) (at + 2) (λ e. omega arith))
 
 -- a frame that has passed an instruction, with a stack that has room
-sound-after : (M : Model) (waits : ℕ) (g : Frame) (stack : List ℕ) → Wellformed M → Sound M 0 g → g .at < length (M .body (g .method))
-    → waits + length stack ≤ suc (g .at) → present M stack ≡ true → Sound M waits (after (split M g) stack)
+fits-after : (M : Model) (waits : ℕ) (g : Frame) (stack : List ℕ) → Wellformed M → FrameFits M 0 g → g .at < length (M .body (g .method))
+    → waits + length stack ≤ suc (g .at) → present M stack ≡ true → FrameFits M waits (after (split M g) stack)
 unfolding after split
-sound-after M waits g stack w s l h e =
+fits-after M waits g stack w s l h e =
     record {
       method-present = s .method-present;
+      arity-few = s .arity-few;
       inside = omega arith;
       short = omega (arith, w .body-limit (g .method) (s .method-present));
       room = h;
@@ -87,182 +93,167 @@ stack-below M vs base (suc h) e i l = go (eq-or-lt-of-le (le-of-suc-le-suc l)) (
         rw q (ltb-true (getD vs (base + h) 0) (M .classes) (and-left (ltb (getD vs (base + h) 0) (M .classes)) (every (λ c. ltb c (M .classes)) (stackFrom vs base h)) e))
     go (inr q) r = r q
 
--- The arguments of a send are the top values, "last argument on top".
-gathered-three : (vs : List ℕ) (from n : ℕ) → length (gathered vs from n) ≡ places
-gathered-three vs from zero = refl
-gathered-three vs from (suc zero) = refl
-gathered-three vs from (suc (suc zero)) = refl
-gathered-three vs from (suc (suc (suc n))) = refl
+-- the values from a place on, as a part of the array and as a stack
+part-stack : (vs : List ℕ) (at n : ℕ) → at + n ≤ length vs → part vs at n ≡ reverse (stackFrom vs at n)
+unfolding part
+part-stack vs at zero h = refl
+part-stack vs at (suc n) h =
+    let long : n < length (drop at vs) = simp length-drop (omega arith) in
+    rw (take-suc (drop at vs) n 0 long, getD-drop at vs n 0, reverse-cons (getD vs (at + n) 0) (stackFrom vs at n))
+    (ap (λ (l : List ℕ). l ++ (getD vs (at + n) 0 ∷ [])) (part-stack vs at n (omega arith)))
 
-gathered-arguments : (vs : List ℕ) (base n j : ℕ) → n ≤ places → take n (gathered vs (base + j) n) ≡ arguments n (stackFrom vs base (n + j))
+-- the arguments of a send are the top values, the last argument on top
+top-arguments : (vs : List ℕ) (base n j : ℕ) → base + j + n ≤ length vs → part vs (base + j) n ≡ arguments n (stackFrom vs base (n + j))
 unfolding arguments
-gathered-arguments vs base zero j h = refl
-gathered-arguments vs base (suc zero) j h = let e : 1 + j ≡ suc j = omega arith in rw e
-gathered-arguments vs base (suc (suc zero)) j h =
-    let e : 2 + j ≡ suc (suc j) = omega arith in
-    let a : base + j + 1 ≡ base + suc j = omega arith in
-    rw (e, a)
-gathered-arguments vs base (suc (suc (suc zero))) j h =
-    let e : 3 + j ≡ suc (suc (suc j)) = omega arith in
-    let a : base + j + 1 ≡ base + suc j = omega arith in
-    let b : base + j + 2 ≡ base + suc (suc j) = omega arith in
-    rw (e, a, b)
-gathered-arguments vs base (suc (suc (suc (suc n)))) j h = absurd (omega (arith, h))
+top-arguments vs base n j h = part-stack vs (base + j) n h ∙ ap reverse (sym (take-stack vs base n j))
 
-gathered-rule : (M : Model) (vs : List ℕ) (base n j : ℕ) → n ≤ places → present M (stackFrom vs base (n + j)) ≡ true
-    → tupleRule (M .classes) n (gathered vs (base + j) n) ≡ true
-unfolding tupleRule every
-gathered-rule M vs base zero j h e = refl
-gathered-rule M vs base (suc zero) j h e =
-    let a = lt-ltb (getD vs (base + j) 0) (M .classes) (stack-below M vs base (1 + j) e j (omega arith)) in rw a
-gathered-rule M vs base (suc (suc zero)) j h e =
-    let a = lt-ltb (getD vs (base + j) 0) (M .classes) (stack-below M vs base (2 + j) e j (omega arith)) in
-    let x : base + (j + 1) ≡ base + j + 1 = omega arith in
-    let b = lt-ltb (getD vs (base + j + 1) 0) (M .classes) (rw x at (stack-below M vs base (2 + j) e (j + 1) (omega arith))) in
-    rw (a, b)
-gathered-rule M vs base (suc (suc (suc zero))) j h e =
-    let a = lt-ltb (getD vs (base + j) 0) (M .classes) (stack-below M vs base (3 + j) e j (omega arith)) in
-    let x : base + (j + 1) ≡ base + j + 1 = omega arith in
-    let y : base + (j + 2) ≡ base + j + 2 = omega arith in
-    let b = lt-ltb (getD vs (base + j + 1) 0) (M .classes) (rw x at (stack-below M vs base (3 + j) e (j + 1) (omega arith))) in
-    let c = lt-ltb (getD vs (base + j + 2) 0) (M .classes) (rw y at (stack-below M vs base (3 + j) e (j + 2) (omega arith))) in
-    rw (a, b, c)
-gathered-rule M vs base (suc (suc (suc (suc n)))) j h e = absurd (omega (arith, h))
-
-tuple-read : (fs : List ℕ) (k i : ℕ) → i < places → getD fs (6 * k + 3 + i) 0 ≡ getD (tupleAt fs k) i 0
-tuple-read fs k zero h = let e : 6 * k + 3 + 0 ≡ 6 * k + 3 = omega arith in rw e
-tuple-read fs k (suc zero) h = let e : 6 * k + 3 + 1 ≡ 6 * k + 4 = omega arith in rw e
-tuple-read fs k (suc (suc zero)) h = let e : 6 * k + 3 + 2 ≡ 6 * k + 5 = omega arith in rw e
-tuple-read fs k (suc (suc (suc i))) h = absurd (omega (arith, h))
+top-present : (M : Model) (vs : List ℕ) (base n j : ℕ) → base + j + n ≤ length vs → present M (stackFrom vs base (n + j)) ≡ true
+    → present M (part vs (base + j) n) ≡ true
+unfolding present byte
+top-present M vs base n j h e =
+    let long = part-length vs (base + j) n h in
+    every-places (λ c. ltb c (M .classes)) (part vs (base + j) n) 0 (λ i l.
+    let same : base + (j + i) ≡ base + j + i = omega arith in
+    rw (part-at vs (base + j) n i (omega arith)) (lt-ltb (getD vs (base + j + i) 0) (M .classes) (rw same at (stack-below M vs base (n + j) e (j + i) (omega arith)))))
 
 module _ (M : Model) (w : Wellformed M) (fs vs : List ℕ) (k : ℕ) (g : Going M fs vs k) where
-  top-left : frameOf M fs vs k .at < length (M .body (frameOf M fs vs k .method))
+  abbrev top : Frame
+  top = frameOf M fs vs k
+
+  top-left : top .at < length (M .body (top .method))
   unfolding frameOf
   top-left = left-of g
 
-  pub next-short : nextAt fs k < 64
+  pub next-short : nextAt fs k < stackRoom
   next-short = omega (arith, w .body-limit (methodAt fs k) (numbers-of (held-of g) .method-present), left-of g)
 
   pub arity-few : M .arity (M .function (methodAt fs k)) ≤ places
-  arity-few = w .arity-limit (M .function (methodAt fs k)) (w .function-present (methodAt fs k) (numbers-of (held-of g) .method-present))
+  unfolding frameOf
+  arity-few = fits-of (held-of g) .arity-few
 
   -- a place of the frame's method, read as its argument there
-  pub argument-read : (i : ℕ) → i < M .arity (M .function (methodAt fs k)) → (getD fs (6 * k + 3 + i) 0 ≡ getD (frameOf M fs vs k .args) i 0) × (getD fs (6 * k + 3 + i) 0 < M .classes)
-  unfolding frameOf present
+  pub argument-read : (i : ℕ) → i < M .arity (M .function (methodAt fs k))
+      → (getD vs (frameBytes * k + i) 0 ≡ getD (top .args) i 0) × (getD vs (frameBytes * k + i) 0 < M .classes)
+  unfolding frameOf byte
   argument-read i h =
-      let m = methodAt fs k in
+      let n = M .arity (M .function (methodAt fs k)) in
       let few = arity-few in
-      let args = take (M .arity (M .function m)) (tupleAt fs k) in
-      let same : getD fs (6 * k + 3 + i) 0 ≡ getD args i 0 = tuple-read fs k i (omega arith) ∙ sym (getD-take (M .arity (M .function m)) (tupleAt fs k) i 0 h) in
-      let long : length args ≡ M .arity (M .function m) = length-take-le (M .arity (M .function m)) (tupleAt fs k) arity-few in
-      let below = every-place (λ c. ltb c (M .classes)) args 0 (sound-of (held-of g) .args-present) i (omega arith) in
-      (same, omega (arith, same, ltb-true (getD args i 0) (M .classes) below))
+      let room = numbers-of (held-of g) .stack in
+      let same = part-at vs (frameBytes * k) n i h in
+      let below = class-below M (top .args) (fits-of (held-of g) .args-present) i (omega (arith, part-length vs (frameBytes * k) n (omega arith))) in
+      (sym same, omega (arith, same, below))
 
-  put-room : heightAt (passed fs k) k < 64
-  put-room =
-      let n = numbers-of (held-of g) in
-      let same = kept fs (6 * k + 1) (nextAt fs k + 1) (6 * k + 2) (λ e. omega arith) in
-      omega (arith, w .body-limit (methodAt fs k) (n .method-present), left-of g)
+  -- what passing its instruction leaves
+  passed-height : heightAt (passed fs k) k ≡ heightAt fs k
+  passed-height = kept fs (frameNumbers * k + 1) (nextAt fs k + 1) (frameNumbers * k + 2) (λ e. omega arith)
 
-  pub put-room-at : (fs′ : List ℕ) → fs′ ≡ passed fs k → (192 ≤ length fs′) × (heightAt fs′ k < 64)
-  put-room-at fs′ e =
+  pub put-room : (fs′ : List ℕ) → fs′ ≡ passed fs k → StackRoom fs′ vs k
+  put-room fs′ e =
       let n = numbers-of (held-of g) in
-      rw e (omega (arith, length-set fs (6 * k + 1) (nextAt fs k + 1)), put-room)
+      let f = n .frame in
+      rw e (record {
+        frame = record { few = f .few; long = omega (arith, length-set fs (frameNumbers * k + 1) (nextAt fs k + 1)) };
+        stack = n .stack;
+        height = omega (arith, passed-height, next-short);
+      })
 
   -- a value is put
   module _ (v : ℕ) (below : v < M .classes) where
     puts : Held M (raised (passed fs k) k) (laid (passed fs k) vs k v) k
-        × (landed M (raised (passed fs k) k) (laid (passed fs k) vs k v) k ≡ land (after (split M (frameOf M fs vs k)) (v ∷ frameOf M fs vs k .stack)) (callersOf M fs vs k))
-    unfolding landed push after
+        × (resumed M (raised (passed fs k) k) (laid (passed fs k) vs k v) k ≡ resume (after (split M top) (v ∷ top .stack)) (callersOf M fs vs k))
+    unfolding resumed push after
     puts =
         let n = numbers-of (held-of g) in
-        let long : 192 ≤ length (passed fs k) = omega (arith, length-set fs (6 * k + 1) (nextAt fs k + 1)) in
-        let top = frameOf M fs vs k in
-        let rest = stored-waiting M fs vs k (6 * k + 1) (nextAt fs k + 1) (omega arith) (waiting-of (held-of g)) in
+        let s = fits-of (held-of g) in
+        let room = put-room (passed fs k) refl in
+        let method = kept fs (frameNumbers * k + 1) (nextAt fs k + 1) (frameNumbers * k) (λ e. omega arith) in
+        let rest = stored M fs vs k (frameNumbers * k + 1) (nextAt fs k + 1) (omega arith) (waiting-of (held-of g)) in
         let same : frameOf M (raised (passed fs k) k) (laid (passed fs k) vs k v) k ≡ after (split M top) (v ∷ top .stack) =
-        pushed-frame M (passed fs k) vs k v (n .few) long (n .values-long) put-room ∙ ap (push v) (passed-frame M fs vs k (n .few) (n .frames-long)) in
-        let s = sound-of (held-of g) in
-        let sound = sound-after M 0 top (v ∷ top .stack) w s top-left (omega (arith, s .room)) (present-more M v (top .stack) below (s .values-present)) in (
-          held (n .few) (rw same sound) (pushed-waiting M (passed fs k) vs k v (n .few) long (n .values-long) put-room rest),
-          ap₂ land same
-              (pushed-callers M (passed fs k) vs k v (n .few) long (n .values-long) put-room rest
-              ∙ stored-callers M fs vs k (6 * k + 1) (nextAt fs k + 1) (omega arith) (waiting-of (held-of g))),
-        )
+        pushed-frame M (passed fs k) vs k v room (rw method arity-few) ∙ ap (push v) (passed-frame M fs vs k (n .frame)) in
+        let fits = fits-after M 0 top (v ∷ top .stack) w s top-left (omega (arith, s .room)) (present-more M v (top .stack) below (s .values-present)) in
+        let callers = pushed-callers M (passed fs k) vs k v room (rest .1) in
+        (held (n .frame .few) (rw same fits) (callers .1), ap₂ resume same (callers .0 ∙ rest .0))
 
-    pub put-landed : (fs′ fs″ vs′ : List ℕ) → fs′ ≡ passed fs k → fs″ ≡ raised fs′ k → vs′ ≡ laid fs′ vs k v
-        → Held M fs″ vs′ k × (landed M fs″ vs′ k ≡ land (after (split M (frameOf M fs vs k)) (v ∷ frameOf M fs vs k .stack)) (callersOf M fs vs k))
-    put-landed fs′ fs″ vs′ e p q = rw (p, q, e) puts
+    pub put-resumed : (fs′ fs″ vs′ : List ℕ) → fs′ ≡ passed fs k → fs″ ≡ raised fs′ k → vs′ ≡ laid fs′ vs k v
+        → Held M fs″ vs′ k × (resumed M fs″ vs′ k ≡ resume (after (split M top) (v ∷ top .stack)) (callersOf M fs vs k))
+    put-resumed fs′ fs″ vs′ e p q = rw (p, q, e) puts
 
-  pub lowered-next : (j : ℕ) (fs′ : List ℕ) → fs′ ≡ lowered fs k j → (192 ≤ length fs′) × (nextAt fs′ k < 64)
+  pub lowered-next : (j : ℕ) (fs′ : List ℕ) → fs′ ≡ lowered fs k j → HasFrame fs′ k × (nextAt fs′ k < stackRoom)
   lowered-next j fs′ e =
-      let n = numbers-of (held-of g) in
-      rw e (omega (arith, length-set fs (6 * k + 2) j), rw (kept fs (6 * k + 2) j (6 * k + 1) (λ q. omega arith)) next-short)
+      let f = numbers-of (held-of g) .frame in
+      let next = kept fs (frameNumbers * k + 2) j (frameNumbers * k + 1) (λ q. omega arith) in
+      rw e (record { few = f .few; long = omega (arith, length-set fs (frameNumbers * k + 2) j) }, omega (arith, next, next-short))
 
   -- a send takes its arguments off
   module _ (f n j : ℕ) (h : heightAt fs k ≡ n + j) where
-    sent-frame : frameOf M (passed (lowered fs k j) k) vs k ≡ after (split M (frameOf M fs vs k)) (drop n (frameOf M fs vs k .stack))
+    sent-frame : frameOf M (passed (lowered fs k j) k) vs k ≡ after (split M top) (drop n (top .stack))
     unfolding frameOf split after
     sent-frame =
-        let x = numbers-of (held-of g) in
-        let long : 192 ≤ length (lowered fs k j) = omega (arith, length-set fs (6 * k + 2) j) in
-        let low : stackFrom vs (64 * k) j ≡ drop n (stackFrom vs (64 * k) (heightAt fs k)) = rw h (sym (drop-stack vs (64 * k) n j)) in
-        passed-frame M (lowered fs k j) vs k (x .few) long
-        ∙ ap (λ (y : Frame). after (split M y) (y .stack)) (lowered-frame M fs vs k j (x .few) (x .frames-long))
-        ∙ ap (λ (y : List ℕ). after (split M (frameOf M fs vs k)) y) low
+        let low : stackFrom vs (stackAt k) j ≡ drop n (stackFrom vs (stackAt k) (heightAt fs k)) = rw h (sym (drop-stack vs (stackAt k) n j)) in
+        passed-frame M (lowered fs k j) vs k (lowered-next j (lowered fs k j) refl .0)
+        ∙ ap (λ (y : Frame). after (split M y) (y .stack)) (lowered-frame M fs vs k j (numbers-of (held-of g) .frame))
+        ∙ ap (λ (y : List ℕ). after (split M top) y) low
 
-    sent-callers : callersOf M (passed (lowered fs k j) k) vs k ≡ callersOf M fs vs k
+    sent-callers : (callersOf M (passed (lowered fs k j) k) vs k ≡ callersOf M fs vs k) × Waiting M (passed (lowered fs k j) k) vs k
     sent-callers =
-        stored-callers M (lowered fs k j) vs k (6 * k + 1) _ (omega arith) (stored-waiting M fs vs k (6 * k + 2) j (omega arith) (waiting-of (held-of g)))
-        ∙ stored-callers M fs vs k (6 * k + 2) j (omega arith) (waiting-of (held-of g))
+        let one = stored M fs vs k (frameNumbers * k + 2) j (omega arith) (waiting-of (held-of g)) in
+        let two = stored M (lowered fs k j) vs k (frameNumbers * k + 1) (nextAt (lowered fs k j) k + 1) (omega arith) (one .1) in
+        (two .0 ∙ one .0, two .1)
 
     sent-waiting : Waiting M (passed (lowered fs k j) k) vs (suc k)
-    unfolding callersOf
     sent-waiting =
-        let x = numbers-of (held-of g) in
-        let s = sound-of (held-of g) in
-        let top = frameOf M fs vs k in
-        let all = stored-waiting M (lowered fs k j) vs k (6 * k + 1) (nextAt (lowered fs k j) k + 1) (omega arith) (stored-waiting M fs vs k (6 * k + 2) j (omega arith) (waiting-of (held-of g))) in
-        let sound : Sound M 1 (after (split M top) (drop n (top .stack))) =
-        sound-after M 1 top (drop n (top .stack)) w s top-left (omega (arith, s .room, length-drop n (top .stack))) (present-drop M n (top .stack) (s .values-present)) in
-        waiting (waiting-long all) (waiting-wide all) (x .few) (rw sent-frame sound, waits-of all)
+        let s = fits-of (held-of g) in
+        let fits : FrameFits M 1 (after (split M top) (drop n (top .stack))) =
+        fits-after M 1 top (drop n (top .stack)) w s top-left (omega (arith, s .room, length-drop n (top .stack))) (present-drop M n (top .stack) (s .values-present)) in
+        waiting-more M (passed (lowered fs k j) k) vs k (numbers-of (held-of g) .frame .few) (rw sent-frame fits) (sent-callers .1)
+
+    sent-room : n ≤ places → stackAt k + j + n ≤ length vs
+    sent-room few = let x = numbers-of (held-of g) in omega (arith, x .stack, x .short)
 
     sends : M .arity f ≡ n → n ≤ places
-        → call M f (take (M .arity f) (gathered vs (64 * k + j) n)) (callersOf M (passed (lowered fs k j) k) vs (suc k)) ≡ turnAt M fs vs k (send f)
+        → call M f (part vs (stackAt k + j) n) (callersOf M (passed (lowered fs k j) k) vs (suc k)) ≡ turnAt M fs vs k (send f)
     unfolding callersOf turnAt turn frameOf split
     sends e few =
-        let stack = stackFrom vs (64 * k) (heightAt fs k) in
-        let enough : n ≤ length stack = omega (arith, length-stack vs (64 * k) (heightAt fs k)) in
-        let args : take n (gathered vs (64 * k + j) n) ≡ arguments n stack =
-        gathered-arguments vs (64 * k) n j few ∙ ap (λ (x : ℕ). arguments n (stackFrom vs (64 * k) x)) (sym h) in
+        let stack = stackFrom vs (stackAt k) (heightAt fs k) in
+        let enough : n ≤ length stack = omega (arith, length-stack vs (stackAt k) (heightAt fs k)) in
+        let args : part vs (stackAt k + j) n ≡ arguments n stack =
+        top-arguments vs (stackAt k) n j (sent-room few) ∙ ap (λ (x : ℕ). arguments n (stackFrom vs (stackAt k) x)) (sym h) in
         rw (e, le-leb n (length stack) enough)
-        (ap₂ (call M f) args (ap₂ (λ (x : Frame) (xs : List Frame). x ∷ xs) sent-frame sent-callers))
+        (ap₂ (call M f) args (ap₂ (λ (x : Frame) (xs : List Frame). x ∷ xs) sent-frame (sent-callers .0)))
 
-    sent-tuple : M .arity f ≡ n → n ≤ places → f < M .functions → Sending M f (gathered vs (64 * k + j) n)
+    sent-arguments : M .arity f ≡ n → n ≤ places → f < M .functions → Arguments M f (part vs (stackAt k + j) n)
     unfolding frameOf
-    sent-tuple e few below =
-        sending below (gathered-three vs (64 * k + j) n)
-        (rw e (gathered-rule M vs (64 * k) n j few (rw h at (sound-of (held-of g) .values-present))))
+    sent-arguments e few below =
+        record {
+          function = below;
+          arity = part-length vs (stackAt k + j) n (sent-room few) ∙ sym e;
+          classes = top-present M vs (stackAt k) n j (sent-room few) (rw h at (fits-of (held-of g) .values-present));
+        }
 
-    pub send-called : M .arity f ≡ n → n ≤ places → f < M .functions → (fs′ fs″ args : List ℕ) → fs′ ≡ lowered fs k j → fs″ ≡ passed fs′ k
-        → args ≡ gathered vs (64 * k + j) n
-        → Sending M f args × Waiting M fs″ vs (k + 1) × (call M f (take (M .arity f) args) (callersOf M fs″ vs (k + 1)) ≡ turnAt M fs vs k (send f))
-    send-called e few below fs′ fs″ args p q r = rw (r, q, p, add-one k) (sent-tuple e few below, sent-waiting, sends e few)
+    pub send-called : M .arity f ≡ n → n ≤ places → f < M .functions → (fs′ fs″ tuple : List ℕ) → fs′ ≡ lowered fs k j → fs″ ≡ passed fs′ k
+        → tuple ≡ padded (part vs (stackAt k + j) n)
+        → Arguments M f (take n tuple) × Waiting M fs″ vs (k + 1) × (call M f (take n tuple) (callersOf M fs″ vs (k + 1)) ≡ turnAt M fs vs k (send f))
+    send-called e few below fs′ fs″ tuple p q r =
+        let args = part vs (stackAt k + j) n in
+        let long : length args ≡ n = part-length vs (stackAt k + j) n (sent-room few) in
+        let read : take n (padded args) ≡ args = rw long at (padded-read args (omega arith)) in
+        rw (r, read, q, p, add-one k) (sent-arguments e few below, sent-waiting, sends e few)
 
   -- 14 where there are fewer values than arguments
   pub send-stops : (f : ℕ) → heightAt fs k < M .arity f → turnAt M fs vs k (send f) ≡ failed (stopped 14 (methodAt fs k ∷ nextAt fs k ∷ []))
   unfolding turnAt turn frameOf split stoppedAt
   send-stops f h =
-      let few : length (stackFrom vs (64 * k) (heightAt fs k)) < M .arity f = omega (arith, length-stack vs (64 * k) (heightAt fs k)) in
-      rw (lt-leb (M .arity f) (length (stackFrom vs (64 * k) (heightAt fs k))) few)
+      let few : length (stackFrom vs (stackAt k) (heightAt fs k)) < M .arity f = omega (arith, length-stack vs (stackAt k) (heightAt fs k)) in
+      rw (lt-leb (M .arity f) (length (stackFrom vs (stackAt k) (heightAt fs k))) few)
 
   -- ARG and NEW put a value; NEW of an abstract class is 15
   pub arg-puts : (i : ℕ) → turnAt M fs vs k (arg i)
-      ≡ made (land (after (split M (frameOf M fs vs k)) (getD (frameOf M fs vs k .args) i 0 ∷ frameOf M fs vs k .stack)) (callersOf M fs vs k))
+      ≡ made (resume (after (split M (frameOf M fs vs k)) (getD (frameOf M fs vs k .args) i 0 ∷ frameOf M fs vs k .stack)) (callersOf M fs vs k))
   unfolding turnAt turn split
   arg-puts i = refl
 
   pub new-puts : (c : ℕ) → M .concrete c ≡ true → turnAt M fs vs k (new c)
-      ≡ made (land (after (split M (frameOf M fs vs k)) (c ∷ frameOf M fs vs k .stack)) (callersOf M fs vs k))
+      ≡ made (resume (after (split M (frameOf M fs vs k)) (c ∷ frameOf M fs vs k .stack)) (callersOf M fs vs k))
   unfolding turnAt turn split
   new-puts c e = rw e
 

@@ -1,2 +1,3 @@
 pub mod Held
 pub mod Endings
+pub mod Outcome

@@ -1,7 +1,6 @@
-// The stepper: frames in lent arrays, sends, single steps, and whole runs.
-pub mod call;
+// The machine: sends, returns and single instructions over frames in lent arrays, and the run of a send.
+mod call;
 pub mod ending;
-pub mod frames;
-pub mod landing;
+mod returning;
 pub mod run;
-pub mod step;
+mod step;

@@ -1,36 +1,42 @@
 // Whole runs: steps until one ends or fails, or the count is used up.
+use crate::call::MAX_FRAMES;
 use crate::call::call;
 use crate::ending::Ending;
-use crate::ending::Outcome;
-use crate::ending::Turned;
+use crate::ending::Stepped;
 use crate::step::step;
+use frames::frame::FRAME_BYTES;
+use frames::frame::FRAME_NUMBERS;
 use layout::bundle::Bundle;
 ghost use mathlib.Core.Path.{_≡_};
-ghost use mathlib.Core.Bool.{true};
-ghost use Prim.Native.Nat.{_<_};
-ghost use lib.ListN.{length, take};
-ghost use Rattle.rules.specs.Layout.{places, tupleRule};
+ghost use Prim.Native.Nat.{_*_};
+ghost use lib.ListN.{length};
 ghost use Rattle.rules.specs.Model.{modelOf};
-ghost use Rattle.rules.specs.Machine.{runFrom, run};
-ghost use Rattle.layout.specs.Opened.{Opened};
-ghost use Rattle.dispatch.specs.Matrix.{Filled};
-ghost use Rattle.machine.specs.Held.{landed, Going};
-ghost use Rattle.machine.specs.Endings.{outcomeOf};
+ghost use Rattle.rules.specs.Machine.{maxFrames, runFrom, run};
+ghost use Rattle.dispatch.specs.Prepared.{Prepared};
+ghost use Rattle.dispatch.specs.Places.{Arguments};
+ghost use Rattle.frames.specs.Arrays.{frameNumbers, frameBytes};
+ghost use Rattle.machine.specs.Held.{resumed, Going};
+ghost use Rattle.machine.specs.Outcome.{outcomeOf};
+
+// The ending of a run and the steps made.
+pub struct Outcome {
+    pub ending: Ending,
+    pub steps: u32,
+}
 
 // Steps from the frame on top, at most `count`.
-pub fn run_from(
+fn run_from(
     bytes: &[u8],
     b: Bundle,
     scratch: &[u8],
     frames: &mut [usize],
-    values: &mut [usize],
+    values: &mut [u8],
     top: usize,
     count: u32,
 ) -> Outcome
-    requires { ⌜ Opened (now bytes) b ⌝ }
-    requires { ⌜ Filled (modelOf (now bytes)) (now scratch) ⌝ }
+    requires { ⌜ Prepared (now bytes) b (now scratch) ⌝ }
     requires { ⌜ Going (modelOf (now bytes)) (now frames) (now values) top ⌝ }
-    ensures { λ r. ⌜ (let M = modelOf (now (bytes .entry)) in outcomeOf r ≡ (runFrom M count 0 (landed M (now (frames .entry)) (now (values .entry)) top)) .outcome) ⌝ }
+    ensures { λ r. ⌜ (let M = modelOf (now (bytes .entry)) in outcomeOf r ≡ (runFrom M count 0 (resumed M (now (frames .entry)) (now (values .entry)) top)) .outcome) ⌝ }
 {
     let mut k = top;
     let mut steps: u32 = 0;
@@ -40,17 +46,17 @@ pub fn run_from(
             return Outcome { ending, steps };
         }
         match step(bytes, b, scratch, frames, values, k) {
-            Turned::Goes(next) => {
+            Stepped::Goes(next) => {
                 k = next;
                 steps += 1;
             }
-            Turned::Ends(ending) => {
+            Stepped::Ends(ending) => {
                 return Outcome {
                     ending,
                     steps: steps + 1,
                 };
             }
-            Turned::Failed(ending) => {
+            Stepped::Failed(ending) => {
                 return Outcome { ending, steps };
             }
         }
@@ -58,32 +64,29 @@ pub fn run_from(
 }
 
 // Frames and values to run on, before any is used.
-fn no_frames() -> [usize; 192]
-    ensures { λ r. ⌜ 192 ≡ length r ⌝ }
+fn no_frames() -> [usize; FRAME_NUMBERS * MAX_FRAMES]
+    ensures { λ r. ⌜ frameNumbers * maxFrames ≡ length r ⌝ }
 {
-    [0; 192]
+    [0; FRAME_NUMBERS * MAX_FRAMES]
 }
 
-fn no_values() -> [usize; 2048]
-    ensures { λ r. ⌜ 2048 ≡ length r ⌝ }
+fn no_values() -> [u8; FRAME_BYTES * MAX_FRAMES]
+    ensures { λ r. ⌜ frameBytes * maxFrames ≡ length r ⌝ }
 {
-    [0; 2048]
+    [0; FRAME_BYTES * MAX_FRAMES]
 }
 
 // A run of one send, with no more steps than the count.
-pub fn run(bytes: &[u8], b: Bundle, scratch: &[u8], f: usize, args: &[usize], count: u32) -> Outcome
-    requires { ⌜ Opened (now bytes) b ⌝ }
-    requires { ⌜ Filled (modelOf (now bytes)) (now scratch) ⌝ }
-    requires { ⌜ f < b .functions ⌝ }
-    requires { ⌜ length (now args) ≡ places ⌝ }
-    requires { ⌜ tupleRule (modelOf (now bytes) .classes) (modelOf (now bytes) .arity f) (now args) ≡ true ⌝ }
-    ensures { λ r. ⌜ (let M = modelOf (now (bytes .entry)) in outcomeOf r ≡ (run M f (take (M .arity f) (now (args .entry))) count) .outcome) ⌝ }
+pub fn run(bytes: &[u8], b: Bundle, scratch: &[u8], f: usize, args: &[u8], count: u32) -> Outcome
+    requires { ⌜ Prepared (now bytes) b (now scratch) ⌝ }
+    requires { ⌜ Arguments (modelOf (now bytes)) f (now args) ⌝ }
+    ensures { λ r. ⌜ (let M = modelOf (now (bytes .entry)) in outcomeOf r ≡ (run M f (now (args .entry)) count) .outcome) ⌝ }
 {
     let mut frames = no_frames();
     let mut values = no_values();
     match call(bytes, b, scratch, &mut frames, &mut values, f, args, 0) {
-        Turned::Goes(top) => run_from(bytes, b, scratch, &mut frames, &mut values, top, count),
-        Turned::Ends(ending) => Outcome { ending, steps: 0 },
-        Turned::Failed(ending) => Outcome { ending, steps: 0 },
+        Stepped::Goes(top) => run_from(bytes, b, scratch, &mut frames, &mut values, top, count),
+        Stepped::Ends(ending) => Outcome { ending, steps: 0 },
+        Stepped::Failed(ending) => Outcome { ending, steps: 0 },
     }
 }

@@ -2,21 +2,21 @@
 -- signature and every body types; otherwise the lowest broken signature, or with none the lowest broken method, is named.
 -- Assumes nothing.
 use Prim.Native.Nat.{ℕ, _<_}
-use mathlib.Core.Path.{_≡_, refl, sym, ap, _∙_}
-use mathlib.Core.Bool.{Bool, true, false, _&&_, false≢true}
-use mathlib.Core.Logic.{_⊎_, inl, inr, _↔_}
-use mathlib.Core.List.{List, [], _∷_, _++_, map, List·Memᴰ, List·Memᴰ·head, List·Memᴰ·tail, List·Memᴰ·not-nil, List·Memᴰ·append-cases, List·Memᴰ·eq-of-singleton, Memᴰ·append-left, Memᴰ·append-right, Memᴰ·cast, Memᴰ·map, Memᴰ·of-map}
+use mathlib.Core.Path.{_≡_, refl, sym, ap}
+use mathlib.Core.Bool.{true, false, _&&_, false≢true}
+use mathlib.Core.Logic.{_⊎_, inl, inr}
+use mathlib.Core.List.{List, [], _∷_, map, List·Memᴰ, List·Memᴰ·head, List·Memᴰ·tail, List·Memᴰ·not-nil, List·Memᴰ·append-cases, List·Memᴰ·eq-of-singleton, Memᴰ·append-left, Memᴰ·append-right, Memᴰ·cast, Memᴰ·map, Memᴰ·of-map}
 use mathlib.Core.Option.{Option, none, some}
 use lib.Dec.{ltb}
 use borrow.Author.Tests.{ltb-true}
-use Rattle.rules.specs.Bounded.{upto, every, keep, first, matching}
-use Rattle.rules.specs.Layout.{Answer, gives, refuses}
+use Rattle.rules.specs.Bounded.{upto, every, matching}
+use Rattle.rules.specs.Layout.{gives}
 use Rattle.rules.specs.Model.{Model}
 use Rattle.rules.specs.Subclass.{subclass, under}
 use Rattle.rules.specs.Lookup.{Found, found, missing, ambiguous, lookup}
 use Rattle.rules.specs.Types.{Typing, typed, breaks, typeBody}
 use Rattle.rules.specs.Coverage.{covers, declaredHold, Judgement, holds, fails, judgeFound, judge, failing, concreteClass, concreteUnder, prefixed, tuples, brokenTuple, isSome, brokenSignature, breaking, brokenMethod, coverageRefusal, bodyRefusal, bodyVerdict, coverageVerdict, verdictNaming, Names, NamesBroken, tupleOr, firstBroken, verdict}
-use Rattle.rules.proofs.Lists.{test, and-left, and-right, and-both, keep-mem, keep-in, upto-below, below-upto, first-mem, first-none, none-first, lowest-none, lowest-some, none-lowest}
+use Rattle.rules.proofs.Lists.{test, and-left, and-right, and-both, keep-mem, keep-in, below-upto, first-mem, first-none, none-first, lowest-none, lowest-some, none-lowest}
 
 prefixed-mem : (ks : List ℕ) (ts : List (List ℕ)) {t : List ℕ} → List·Memᴰ t (prefixed ks ts)
     → (k : ℕ) × (u : List ℕ) × (t ≡ k ∷ u) × List·Memᴰ k ks × List·Memᴰ u ts
@@ -71,26 +71,26 @@ tuples-in M (c ∷ cs) (k ∷ t) e h =
     (tuples-in M cs t (and-right (concreteClass M k) (every (concreteClass M) t) e) (and-right (subclass M k c) (matching (subclass M) t cs) h))
 
 -- what a judgement that holds says
-pub record Judged (M : Model) (s : ℕ) (args : List ℕ) (m : ℕ) : Type 0 where
+pub record Holding (M : Model) (s : ℕ) (args : List ℕ) (m : ℕ) : Type 0 where
   pub byLookup : lookup M (M .sigFunction s) args ≡ found m
   pub declaredHolds : declaredHold M m args ≡ true
   pub resultUnder : subclass M (M .result m) (M .sigResult s) ≡ true
 
-judged-found : (M : Model) (s : ℕ) (args : List ℕ) (m : ℕ) (r : Found) → lookup M (M .sigFunction s) args ≡ r → judgeFound M s args r ≡ holds m → Judged M s args m
+judged-found : (M : Model) (s : ℕ) (args : List ℕ) (m : ℕ) (r : Found) → lookup M (M .sigFunction s) args ≡ r → judgeFound M s args r ≡ holds m → Holding M s args m
 unfolding judgeFound
 judged-found M s args m missing q e = absurd (false≢true (cc))
 judged-found M s args m (ambiguous a b) q e = absurd (false≢true (cc))
 judged-found M s args m (found n) q e = go (test (declaredHold M n args)) (test (subclass M (M .result n) (M .sigResult s)))
   where
     go : (declaredHold M n args ≡ true) ⊎ (declaredHold M n args ≡ false)
-        → (subclass M (M .result n) (M .sigResult s) ≡ true) ⊎ (subclass M (M .result n) (M .sigResult s) ≡ false) → Judged M s args m
+        → (subclass M (M .result n) (M .sigResult s) ≡ true) ⊎ (subclass M (M .result n) (M .sigResult s) ≡ false) → Holding M s args m
     go (inl d) (inl u) =
         let same : n ≡ m = cc (rw (d, u) at e) in
         rw (← same) (record { byLookup = q; declaredHolds = d; resultUnder = u })
     go (inl d) (inr u) = absurd (false≢true (cc (rw (d, u) at e)))
     go (inr d) u = absurd (false≢true (cc (rw d at e)))
 
-pub judge-holds : (M : Model) (s : ℕ) (args : List ℕ) (m : ℕ) → judge M s args ≡ holds m → Judged M s args m
+pub judge-holds : (M : Model) (s : ℕ) (args : List ℕ) (m : ℕ) → judge M s args ≡ holds m → Holding M s args m
 unfolding judge
 judge-holds M s args m e = judged-found M s args m (lookup M (M .sigFunction s) args) refl e
 

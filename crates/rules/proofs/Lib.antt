@@ -1,4 +1,5 @@
 pub mod Lists
+pub mod Decides
 pub mod Order
 pub mod Opening
 pub mod Places
@@ -11,4 +12,5 @@ pub mod Types
 pub mod Machine
 pub mod Sound
 pub mod Overwrite
+pub mod Tuples
 pub mod Cases

@@ -5,13 +5,13 @@ use native.Mathlib.Nat.{not-suc-le-zero, le-of-suc-le-suc, eq-or-lt-of-le}
 use native.Mathlib.Numerals.{add-one}
 use native.Mathlib.Omega.{arith}
 use mathlib.Core.Path.{_≡_, refl, sym, ap, ap₂, _∙_}
-use mathlib.Core.Bool.{Bool, true, false, not, cond, _&&_, _||_, false≢true, and-true, and-assoc}
+use mathlib.Core.Bool.{Bool, true, false, _&&_, _||_, false≢true, and-true, and-assoc}
 use mathlib.Core.Logic.{_⊎_, inl, inr}
-use mathlib.Core.List.{List, [], _∷_, _++_, append-nil, map, reverse, reverseAux, List·Memᴰ, List·Memᴰ·head, List·Memᴰ·tail, Memᴰ·append-left, Memᴰ·append-right, List·Memᴰ·append-cases, List·Memᴰ·cases-cons, List·Memᴰ·not-nil, List·Memᴰ·eq-of-singleton}
+use mathlib.Core.List.{List, [], _∷_, _++_, append-nil, reverse, reverseAux, List·Memᴰ, List·Memᴰ·head, List·Memᴰ·tail, Memᴰ·append-left, Memᴰ·append-right, List·Memᴰ·append-cases, List·Memᴰ·cases-cons, List·Memᴰ·not-nil, List·Memᴰ·eq-of-singleton}
 use mathlib.Core.Option.{Option, none, some}
 use lib.ListN.{length, getD, take, drop, length-append, List·getD-append}
 use lib.Seq.{getD-at, take-suc}
-use Rattle.rules.specs.Bounded.{upto, sum, every, any, keep, first, matching}
+use Rattle.rules.specs.Bounded.{upto, every, any, keep, first, matching}
 
 -- a test's two values, with the equation
 pub test : (t : Bool) → (t ≡ true) ⊎ (t ≡ false)
@@ -389,6 +389,14 @@ module _ {A B : Type 0} where
   matching-from p (x ∷ xs) (y ∷ ys) d d′ e h =
       and-both (p x y) (matching p xs ys) (h 0 (omega arith))
       (matching-from p xs ys d d′ (omega (arith, e)) (λ i r. h (suc i) (omega (arith, r))))
+
+  pub matching-broken : (p : A → B → Bool) (xs : List A) (ys : List B) (d : A) (d′ : B) (i : ℕ) → i < length xs
+      → p (getD xs i d) (getD ys i d′) ≡ false → matching p xs ys ≡ false
+  matching-broken p xs ys d d′ i h e = go (matching p xs ys) refl
+    where
+      go : (t : Bool) → matching p xs ys ≡ t → matching p xs ys ≡ false
+      go true q = absurd (false≢true (sym e ∙ matching-at p xs ys d d′ q i h))
+      go false q = q
 
   -- `matching` goes with taking, dropping and reversing both lists
   pub matching-take : (p : A → B → Bool) (n : ℕ) (xs : List A) (ys : List B) → matching p xs ys ≡ true → matching p (take n xs) (take n ys) ≡ true

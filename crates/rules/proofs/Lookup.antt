@@ -6,20 +6,20 @@ use native.Mathlib.Omega.{arith}
 use native.Mathlib.Nat.{not-suc-le-zero, le-of-eq}
 use native.Mathlib.Decide.{ℕ-discrete}
 use mathlib.Core.Path.{_≡_, refl, sym, ap, _∙_}
-use mathlib.Core.Bool.{Bool, true, false, not, _&&_, _||_, false≢true, and-true}
+use mathlib.Core.Bool.{true, false, not, _&&_, _||_, false≢true, and-true}
 use mathlib.Core.Logic.{_⊎_, inl, inr, _↔_}
 use mathlib.Core.List.{List, [], _∷_, _++_, List·Memᴰ, List·Memᴰ·head, List·Memᴰ·tail, List·Memᴰ·not-nil, List·Memᴰ·cases-cons, List·Memᴰ·eq-of-singleton}
 use mathlib.Core.Option.{Option, none, some}
 use lib.Dec.{eqb}
-use lib.ListN.{length, getD, take, drop}
+use lib.ListN.{length, getD, take}
 use lib.Seq.{take-all}
 use borrow.Author.Tests.{eqb-true, eq-eqb, not-true}
-use Rattle.rules.specs.Bounded.{upto, every, keep, first, matching}
-use Rattle.rules.specs.Model.{Model, Wellformed, present}
+use Rattle.rules.specs.Bounded.{upto, keep, first, matching}
+use Rattle.rules.specs.Model.{Model, Wellformed}
 use Rattle.rules.specs.Subclass.{subclass, under}
 use Rattle.rules.specs.Lookup.{Found, found, missing, ambiguous, applies, applicable, applicableSoFar, asSpecific, leads, unbeaten, rivals, leaderOr, select, lookup}
 use Rattle.rules.proofs.Lists.{test, and-left, and-right, and-both, or-cases, or-left, or-right, every-mem, every-from, keep-mem, keep-in, keep-agree, keep-keep, matching-length, matching-snoc, first-mem, first-none, upto-below, below-upto, Rising, rising-upto, rising-keep}
-use Rattle.rules.proofs.Order.{Minimal, minimal}
+use Rattle.rules.proofs.Order.{minimal}
 use Rattle.rules.proofs.Subclass.{under-itself, under-trans, under-antisym}
 
 -- an applicable method of a function
@@ -153,7 +153,7 @@ no-candidate M f args h = go (applicable M f args) (λ m k. h m (applicable-cand
     go [] k = refl
     go (m ∷ ms) k = absurd (k m (List·Memᴰ·head refl))
 
--- "None applicable is 10", and nothing else is
+-- lookup fails by 10 exactly where no method applies (M 5.4)
 pub lookup-missing : (M : Model) (f : ℕ) (args : List ℕ) → (lookup M f args ≡ missing) ↔ ((m : ℕ) → Candidate M f args m → ⊥)
 unfolding lookup select
 lookup-missing M f args = (

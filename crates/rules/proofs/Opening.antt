@@ -1,17 +1,17 @@
 -- What opening says of a bundle: it gives the counts exactly when every rule holds, and where the sections lie.
 -- Assumes nothing.
-use Prim.Native.Nat.{ℕ, zero, suc, _+_, _*_, _/_, _%_, _≤_, _<_}
+use Prim.Native.Nat.{ℕ, suc, _+_, _≤_, _<_}
 use native.Mathlib.Omega.{arith}
-use mathlib.Core.Path.{_≡_, refl, sym, ap, _∙_}
-use mathlib.Core.Bool.{Bool, true, false, not, _&&_, _||_, false≢true}
+use mathlib.Core.Path.{_≡_, refl, ap}
+use mathlib.Core.Bool.{Bool, true, false, not, false≢true}
 use mathlib.Core.List.{List, [], _∷_}
 use mathlib.Core.Option.{Option, none, some}
-use lib.Dec.{leb, ltb, eqb}
+use lib.Dec.{eqb}
 use lib.ListN.{length}
-use borrow.Author.Tests.{leb-true, ltb-true, eqb-true, not-false}
-use Rattle.rules.specs.Bounded.{upto, every}
-use Rattle.rules.specs.Layout.{Answer, gives, refuses, require, requireEach, lowest, offset, extent, sectionEnd, sizeRule, chainRule, wholeRule, limitRule, classRule, functionRule, signatureRule, methodRule, twinRule, codeRule, classCount, functionCount, signatureCount, methodCount, opening}
-use Rattle.rules.proofs.Lists.{and-left, and-right, and-both, lowest-none, none-lowest, every-mem, below-upto}
+use borrow.Author.Tests.{leb-true, eqb-true, not-false}
+use Rattle.rules.specs.Bounded.{upto}
+use Rattle.rules.specs.Layout.{Answer, gives, require, requireEach, lowest, offset, extent, sectionEnd, sizeRule, chainRule, wholeRule, limitRule, classRule, functionRule, signatureRule, methodRule, twinRule, codeRule, classCount, functionCount, signatureCount, methodCount, opening}
+use Rattle.rules.proofs.Lists.{and-left, and-right, lowest-none, none-lowest, every-mem, below-upto}
 
 -- every rule of numbers 1 to 9 holds
 pub record Rules (b : List ℕ) : Type 0 where
@@ -37,11 +37,11 @@ module _ {A : Type 0} where
   each-passed none number rest e = (refl, e)
   each-passed (some k) number rest e = absurd (false≢true (cc))
 
-all-hold : (rule : ℕ → Bool) (n : ℕ) → lowest rule n ≡ none → (k : ℕ) → k < n → rule k ≡ true
+pub all-hold : (rule : ℕ → Bool) (n : ℕ) → lowest rule n ≡ none → (k : ℕ) → k < n → rule k ≡ true
 unfolding lowest
 all-hold rule n e k h = not-false (rule k) (lowest-none (λ j. not (rule j)) n e k h)
 
-none-broken : (rule : ℕ → Bool) (n : ℕ) → ((k : ℕ) → k < n → rule k ≡ true) → lowest rule n ≡ none
+pub none-broken : (rule : ℕ → Bool) (n : ℕ) → ((k : ℕ) → k < n → rule k ≡ true) → lowest rule n ≡ none
 unfolding lowest
 none-broken rule n h = none-lowest (λ j. not (rule j)) n (λ k r. ap not (h k r))
 

@@ -4,19 +4,24 @@ use Prim.Native.Nat.{ℕ, zero, suc, _+_, _-_, _≤_, _<_}
 use native.Mathlib.Omega.{arith}
 use native.Mathlib.Numerals.{add-one}
 use mathlib.Core.Path.{_≡_, refl, sym, ap, _∙_}
-use mathlib.Core.List.{List, [], _∷_, _++_, map, append-assoc}
-use lib.ListN.{length, getD, take, drop, set, length-append, length-drop, length-map, List·getD-map, List·getD-append}
-use lib.Seq.{drop-cons, set-at, getD-append-add, getD-drop, append-snoc}
+use mathlib.Core.List.{List, [], _∷_, _++_, map, List·Memᴰ, List·Memᴰ·head, List·Memᴰ·tail}
+use lib.ListN.{length, getD, drop, set, length-append, length-drop, length-map, List·getD-append}
+use lib.Seq.{drop-at, drop-cons, set-at, getD-append-add, getD-drop, append-snoc}
 use Rattle.rules.specs.Bounded.{upto}
 use Rattle.rules.specs.Calls.{overwrite}
-use Rattle.rules.proofs.Lists.{length-upto, getD-upto}
+use Rattle.rules.proofs.Lists.{length-upto, getD-upto, upto-below}
 
 map-upto : (f : ℕ → ℕ) (n : ℕ) → length (map f (upto n)) ≡ n
 map-upto f n = length-map (upto n) f ∙ length-upto n
 
-map-snoc : (f : ℕ → ℕ) (xs : List ℕ) (x : ℕ) → map f (xs ++ (x ∷ [])) ≡ map f xs ++ (f x ∷ [])
+-- a map over a list with one element more, and two maps that agree on the elements
+pub map-snoc : {A B : Type 0} (f : A → B) (xs : List A) (x : A) → map f (xs ++ (x ∷ [])) ≡ map f xs ++ (f x ∷ [])
 map-snoc f [] x = refl
-map-snoc f (y ∷ ys) x = ap (λ (l : List ℕ). f y ∷ l) (map-snoc f ys x)
+map-snoc f (y ∷ ys) x = rw (map-snoc f ys x)
+
+map-agree : (f g : ℕ → ℕ) (xs : List ℕ) → ((k : ℕ) → List·Memᴰ k xs → f k ≡ g k) → map f xs ≡ map g xs
+map-agree f g [] h = refl
+map-agree f g (x ∷ xs) h = rw (h x (List·Memᴰ·head refl), map-agree f g xs (λ k m. h k (List·Memᴰ·tail m)))
 
 pub overwrite-none : (f : ℕ → ℕ) (old : List ℕ) → overwrite 0 f old ≡ old
 unfolding overwrite upto
@@ -49,3 +54,13 @@ overwrite-later n f old i =
     ap (λ (k : ℕ). getD (map f (upto n) ++ drop n old) (k + i) 0) (sym (map-upto f n))
     ∙ getD-append-add (map f (upto n)) (drop n old) i 0
     ∙ getD-drop n old i 0
+
+-- what is written is known by its bytes
+pub overwrite-agree : (n : ℕ) (f g : ℕ → ℕ) (old : List ℕ) → ((k : ℕ) → k < n → f k ≡ g k) → overwrite n f old ≡ overwrite n g old
+unfolding overwrite
+overwrite-agree n f g old h = rw (map-agree f g (upto n) (λ k m. h k (upto-below n m)))
+
+-- what is written over is gone
+pub overwrite-twice : (n : ℕ) (f g : ℕ → ℕ) (old : List ℕ) → overwrite n f (overwrite n g old) ≡ overwrite n f old
+unfolding overwrite
+overwrite-twice n f g old = rw (drop-at (map g (upto n)) (drop n old) n (map-upto g n))

@@ -2,16 +2,16 @@
 -- Assumes nothing.
 use Prim.Native.Nat.{ℕ, zero, suc, _+_, _*_, _/_, _≤_, _<_}
 use native.Mathlib.Omega.{arith}
-use mathlib.Core.Path.{_≡_, refl, sym}
+use mathlib.Core.Path.{_≡_, refl, sym, _∙_}
 use mathlib.Core.Bool.{true}
 use mathlib.Core.List.{List, [], _∷_}
 use lib.Dec.{eqb}
 use lib.ListN.{length, take, drop, getD, length-drop}
-use lib.Seq.{length-take-le}
+use lib.Seq.{length-take-le, getD-take, getD-drop}
 use borrow.Author.Tests.{leb-true, eqb-true}
 use Rattle.rules.specs.Bounded.{sum, every}
-use Rattle.rules.specs.Bytes.{part}
-use Rattle.rules.specs.Layout.{offset, extent, sequenceRule, tupleRule, classAt, listOffset, listLength, parentsOf, classRule, signatureAt, sigTupleOf, methodAt, specialiserTupleOf, declaredTupleOf, bodyOffset, bodyLength, codeOf, methodRule, classCount, functionCount, signatureCount, methodCount, functionSection, places}
+use Rattle.rules.specs.Bytes.{byte, part}
+use Rattle.rules.specs.Layout.{offset, extent, sequenceRule, tupleRule, classAt, listOffset, listLength, parentsOf, classRule, signatureAt, sigTupleOf, methodAt, specialiserTupleOf, declaredTupleOf, bodyOffset, bodyLength, codeOf, methodRule, classCount, functionCount, signatureCount, methodCount, functionSection, places, classBytes, signatureBytes, methodBytes}
 use Rattle.rules.specs.Model.{Instr, decode, instructions}
 use Rattle.rules.proofs.Lists.{and-left, and-right}
 use Rattle.rules.proofs.Opening.{Rules, Sections, sections}
@@ -34,9 +34,14 @@ pub method-sequence : (b : List ℕ) (m : ℕ) → methodRule b m ≡ true → s
 unfolding methodRule
 method-sequence b m e = search (and-left, and-right) depth 9
 
-part-length : (b : List ℕ) (i n : ℕ) → i + n ≤ length b → length (part b i n) ≡ n
+-- a part of the bundle, by the bytes from its place on
+pub part-at : (b : List ℕ) (at n i : ℕ) → i < n → getD (part b at n) i 0 ≡ byte b (at + i)
+unfolding part byte
+part-at b at n i l = getD-take n (drop at b) i 0 l ∙ getD-drop at b i 0
+
+pub part-length : (b : List ℕ) (at n : ℕ) → at + n ≤ length b → length (part b at n) ≡ n
 unfolding part
-part-length b i n h = length-take-le n (drop i b) (simp length-drop (omega arith))
+part-length b at n h = length-take-le n (drop at b) (simp length-drop (omega arith))
 
 pub rules-sections : (b : List ℕ) → Rules b → Sections b
 rules-sections b r = sections b (r .size) (r .chain)
@@ -52,7 +57,7 @@ module _ (b : List ℕ) (r : Rules b) where
   offset-within (suc (suc (suc (suc (suc zero))))) h = omega (arith, rules-sections b r)
   offset-within (suc (suc (suc (suc (suc (suc k)))))) h = absurd (omega arith)
 
-  pub class-within : (c : ℕ) → c < classCount b → classAt b c + 6 ≤ offset b 1
+  pub class-within : (c : ℕ) → c < classCount b → classAt b c + classBytes ≤ offset b 1
   unfolding classAt classCount
   class-within c h = let s = rules-sections b r in omega arith
 
@@ -60,11 +65,11 @@ module _ (b : List ℕ) (r : Rules b) where
   unfolding functionCount
   function-within f h = let s = rules-sections b r in omega arith
 
-  pub signature-within : (s : ℕ) → s < signatureCount b → signatureAt b s + 5 ≤ offset b 4
+  pub signature-within : (s : ℕ) → s < signatureCount b → signatureAt b s + signatureBytes ≤ offset b 4
   unfolding signatureAt signatureCount
   signature-within s h = let p = rules-sections b r in omega arith
 
-  pub method-within : (m : ℕ) → m < methodCount b → methodAt b m + 12 ≤ offset b 5
+  pub method-within : (m : ℕ) → m < methodCount b → methodAt b m + methodBytes ≤ offset b 5
   unfolding methodAt methodCount
   method-within m h = let s = rules-sections b r in omega arith
 
@@ -90,15 +95,15 @@ module _ (b : List ℕ) (r : Rules b) where
 
   pub sig-tuple-length : (s : ℕ) → s < signatureCount b → length (sigTupleOf b s) ≡ places
   unfolding sigTupleOf
-  sig-tuple-length s h = part-length b (signatureAt b s + 1) 3 (omega (arith, signature-within s h, offset-within 4 (omega arith)))
+  sig-tuple-length s h = part-length b (signatureAt b s + 1) places (omega (arith, signature-within s h, offset-within 4 (omega arith)))
 
   pub specialiser-tuple-length : (m : ℕ) → m < methodCount b → length (specialiserTupleOf b m) ≡ places
   unfolding specialiserTupleOf
-  specialiser-tuple-length m h = part-length b (methodAt b m + 1) 3 (omega (arith, method-within m h, offset-within 5 (omega arith)))
+  specialiser-tuple-length m h = part-length b (methodAt b m + 1) places (omega (arith, method-within m h, offset-within 5 (omega arith)))
 
   pub declared-tuple-length : (m : ℕ) → m < methodCount b → length (declaredTupleOf b m) ≡ places
   unfolding declaredTupleOf
-  declared-tuple-length m h = part-length b (methodAt b m + 4) 3 (omega (arith, method-within m h, offset-within 5 (omega arith)))
+  declared-tuple-length m h = part-length b (methodAt b m + (1 + places)) places (omega (arith, method-within m h, offset-within 5 (omega arith)))
 
 zeros-read-zero : (t : List ℕ) → every (λ c. eqb c 0) t ≡ true → (i : ℕ) → getD t i 0 ≡ 0
 unfolding every

@@ -2,29 +2,28 @@
 -- there; each caller waits for a value under the results of all signatures that cover its send. A turn keeps this, and only Spent and Deep end a run
 -- early. The induction is on what is left of the count.
 -- Assumes nothing.
-use Prim.Native.Nat.{ℕ, zero, suc, _<_, _≤_}
+use Prim.Native.Nat.{ℕ, zero, suc, _<_}
 use native.Mathlib.Omega.{arith}
-use mathlib.Core.Path.{_≡_, refl, sym, ap, subst, _∙_}
-use mathlib.Core.Bool.{Bool, true, false, cond, _&&_, _||_, false≢true}
+use mathlib.Core.Path.{_≡_, refl, ap}
+use mathlib.Core.Bool.{Bool, true, false, cond, _&&_, false≢true}
 use mathlib.Core.Logic.{_⊎_, inl, inr}
-use mathlib.Core.List.{List, [], _∷_, _++_, map, reverse, List·Memᴰ, List·Memᴰ·head, List·Memᴰ·tail, List·Memᴰ·not-nil, List·Memᴰ·append-cases, List·Memᴰ·eq-of-singleton}
-use lib.Dec.{leb, ltb, eqb}
+use mathlib.Core.List.{List, [], _∷_, List·Memᴰ, List·Memᴰ·head, List·Memᴰ·not-nil, List·Memᴰ·append-cases, List·Memᴰ·eq-of-singleton}
+use lib.Dec.{leb, ltb}
 use lib.ListN.{length, getD, take, drop}
-use borrow.Author.Tests.{leb-true, ltb-true, le-leb}
-use Rattle.rules.specs.Bounded.{every, any, matching}
-use Rattle.rules.specs.Layout.{gives, opening, padded}
+use borrow.Author.Tests.{ltb-true}
+use Rattle.rules.specs.Bounded.{every, matching}
 use Rattle.rules.specs.Model.{Model, Instr, arg, new, send, Wellformed, operandRule, present, modelOf}
 use Rattle.rules.specs.Subclass.{subclass, under}
-use Rattle.rules.specs.Lookup.{Found, found, applies, lookup}
+use Rattle.rules.specs.Lookup.{found, applies, lookup}
 use Rattle.rules.specs.Types.{Static, inType, licenses, sendType, argType, arguments, Typing, typed, breaks, Effect, leaves, breaksBy, sendEffect, effect, ending, afterEffect, typeFrom, typeBody}
-use Rattle.rules.specs.Coverage.{covers, declaredHold, holds, judge, concreteClass, verdict}
-use Rattle.rules.specs.Machine.{Frame, Ending, value, spent, deep, stopped, Landing, goes, ends, Turn, made, failed, stoppedAt, settle, push, land, Target, enters, stops, targetFound, target, enter, callTarget, call, after, turn, Send, meeting, sent, Outcome, Run, finished, meets, afterTurn, runFrom, run, maxFrames}
+use Rattle.rules.specs.Coverage.{covers, declaredHold, holds, judge, concreteClass}
+use Rattle.rules.specs.Machine.{Frame, value, Resumption, goes, ends, Turn, made, failed, stoppedAt, settle, push, resume, enters, targetFound, target, enter, callTarget, call, after, turn, Send, meeting, sent, Run, finished, meets, afterTurn, runFrom, run, maxFrames}
 use Rattle.rules.specs.Sound.{Covering, SoundSend, SoundEnding, SoundRun, Demand3}
 use Rattle.rules.proofs.Lists.{test, and-left, and-right, and-both, every-mem, every-from, any-mem, getD-mem, matching-length, matching-at, matching-trans, matching-take, matching-drop, matching-reverse}
 use Rattle.rules.proofs.Subclass.{subclass-itself, subclass-trans}
-use Rattle.rules.proofs.Lookup.{Candidate, Leader, lookup-leader, candidate-places}
+use Rattle.rules.proofs.Lookup.{lookup-leader, candidate-places}
 use Rattle.rules.proofs.Types.{Licence, result-licence}
-use Rattle.rules.proofs.Coverage.{Judged, judge-holds, Acceptable, verdict-acceptable}
+use Rattle.rules.proofs.Coverage.{Holding, judge-holds, Acceptable, verdict-acceptable}
 use Rattle.rules.proofs.Wellformed.{opened-wellformed}
 
 -- A value conforms to a type when it is a concrete class under each class that generates the type.
@@ -135,7 +134,7 @@ module _ (M : Model) (f₀ : ℕ) (args₀ : List ℕ) where
   Callers f args [] = (f ≡ f₀) × (args ≡ args₀)
   Callers f args (h ∷ hs) = Waits f args h × Callers (M .function (h .method)) (h .args) hs
 
-  abbrev pub SoundLanding : Landing → Type 0
+  abbrev pub SoundLanding : Resumption → Type 0
   SoundLanding (goes i g callers) =
       WellTyped M (g .method) (g .args) (g .at) (i ∷ g .rest) (g .stack) × Callers (M .function (g .method)) (g .args) callers
   SoundLanding (ends e) = SoundEnding M f₀ args₀ e
@@ -147,7 +146,7 @@ module _ (M : Model) (f₀ : ℕ) (args₀ : List ℕ) where
 module _ (M : Model) (w : Wellformed M) (ok : Acceptable M) where
   -- every signature that covers concrete arguments judges by the method that lookup finds for them
   judged-by : (f : ℕ) (args : List ℕ) (m s : ℕ) → every (concreteClass M) args ≡ true → lookup M f args ≡ found m → Covering M f args s
-      → (judge M s args ≡ holds m) × Judged M s args m
+      → (judge M s args ≡ holds m) × Holding M s args m
   judged-by f args m s c l v =
       let (n, j) = ok .signatures s (v .present) args c (v .covered) in
       let d = judge-holds M s args n j in
@@ -173,7 +172,7 @@ module _ (M : Model) (w : Wellformed M) (ok : Acceptable M) where
       go (u ∷ x ∷ rest) c e = absurd (false≢true (and-right (conforms M v u) false c))
 
   module _ (f₀ : ℕ) (args₀ : List ℕ) where
-    settle-sound : (rest : List Instr) (stack : List ℕ) (g : Frame) (callers : List Frame) (return : ℕ → Landing)
+    settle-sound : (rest : List Instr) (stack : List ℕ) (g : Frame) (callers : List Frame) (return : ℕ → Resumption)
         → WellTyped M (g .method) (g .args) (g .at) rest stack
         → Callers M f₀ args₀ (M .function (g .method)) (g .args) callers
         → ((v : ℕ) → SoundEnding M (M .function (g .method)) (g .args) (value v) → SoundLanding M f₀ args₀ (return v))
@@ -193,14 +192,14 @@ module _ (M : Model) (w : Wellformed M) (ok : Acceptable M) where
         go (u ∷ []) c e = absurd (false≢true (and-right (conforms M v u) false c))
         go (u ∷ y ∷ ts) c e = absurd (false≢true (cc))
 
-    land-sound : (g : Frame) (callers : List Frame) → WellTyped M (g .method) (g .args) (g .at) (g .rest) (g .stack)
-        → Callers M f₀ args₀ (M .function (g .method)) (g .args) callers → SoundLanding M f₀ args₀ (land g callers)
-    unfolding land push
-    land-sound g [] t b =
+    resume-sound : (g : Frame) (callers : List Frame) → WellTyped M (g .method) (g .args) (g .at) (g .rest) (g .stack)
+        → Callers M f₀ args₀ (M .function (g .method)) (g .args) callers → SoundLanding M f₀ args₀ (resume g callers)
+    unfolding resume push
+    resume-sound g [] t b =
         settle-sound (g .rest) (g .stack) g [] (λ v. ends (value v)) t b
         (λ v s. (s .0, λ r k. s .1 r (rw (b .0, b .1) k)))
-    land-sound g (h ∷ hs) t b =
-        settle-sound (g .rest) (g .stack) g (h ∷ hs) (λ v. land (push v h) hs) t b (λ v s. land-sound (push v h) hs (b .0 v s) (b .1))
+    resume-sound g (h ∷ hs) t b =
+        settle-sound (g .rest) (g .stack) g (h ∷ hs) (λ v. resume (push v h) hs) t b (λ v s. resume-sound (push v h) hs (b .0 v s) (b .1))
 
     enter-sound : (m : ℕ) (args : List ℕ) (callers : List Frame) → WellTyped M m args 0 (M .body m) []
         → Callers M f₀ args₀ (M .function m) args callers → SoundTurn M f₀ args₀ (enter M m args callers)
@@ -211,7 +210,7 @@ module _ (M : Model) (w : Wellformed M) (ok : Acceptable M) where
         opened = record { method = m; args = args; at = 0; rest = M .body m; stack = [] }
 
         go : (ltb (length callers) maxFrames ≡ true) ⊎ (ltb (length callers) maxFrames ≡ false) → SoundTurn M f₀ args₀ (enter M m args callers)
-        go (inl q) = rw q (land-sound opened callers t b)
+        go (inl q) = rw q (resume-sound opened callers t b)
         go (inr q) = rw q tt
 
     -- a covered send of concrete classes finds its method, and opens a well-typed frame or is Deep
@@ -256,10 +255,10 @@ module _ (M : Model) (w : Wellformed M) (ok : Acceptable M) where
     -- the frame after an instruction that leaves one value more
     pushed : (i : Instr) (g : Frame) (callers : List Frame) (v : ℕ) (t : Static) (b : SoundLanding M f₀ args₀ (goes i g callers))
         → conforms M v t ≡ true → typeFrom M (g .method) (suc (g .at)) (t ∷ b .0 .types) (g .rest) ≡ typed
-        → SoundLanding M f₀ args₀ (land (after g (v ∷ g .stack)) callers)
+        → SoundLanding M f₀ args₀ (resume (after g (v ∷ g .stack)) callers)
     unfolding after matching every
     pushed i g callers v t (a, b) c e =
-        land-sound (after g (v ∷ g .stack)) callers
+        resume-sound (after g (v ∷ g .stack)) callers
         (record {
           bound = a .bound;
           byLookup = a .byLookup;
@@ -364,13 +363,13 @@ module _ (M : Model) (w : Wellformed M) (ok : Acceptable M) where
         go x (inl m) = h x m
         go x (inr m) = p x m
 
-    after-turn-sound : (t : Turn) (steps : ℕ) (continue : Landing → Run) → SoundTurn M f₀ args₀ t → ((l : Landing) → SoundLanding M f₀ args₀ l → SoundRest (continue l))
+    after-turn-sound : (t : Turn) (steps : ℕ) (continue : Resumption → Run) → SoundTurn M f₀ args₀ t → ((l : Resumption) → SoundLanding M f₀ args₀ l → SoundRest (continue l))
         → SoundRest (afterTurn t steps continue)
     unfolding afterTurn finished
     after-turn-sound (made l) steps continue s k = k l s
     after-turn-sound (failed e) steps continue s k = (λ x m. absurd (List·Memᴰ·not-nil m), s)
 
-    rest-sound : (left steps : ℕ) (l : Landing) → SoundLanding M f₀ args₀ l → SoundRest (runFrom M left steps l)
+    rest-sound : (left steps : ℕ) (l : Resumption) → SoundLanding M f₀ args₀ l → SoundRest (runFrom M left steps l)
     unfolding runFrom finished
     rest-sound zero steps (ends e) s = (λ x m. absurd (List·Memᴰ·not-nil m), s)
     rest-sound zero steps (goes i g callers) s = (λ x m. absurd (List·Memᴰ·not-nil m), tt)
@@ -391,7 +390,7 @@ module _ (M : Model) (w : Wellformed M) (ok : Acceptable M) where
       (after-turn-sound f args (call M f args []) 0 (λ l. runFrom M count 0 l) t (λ l k. rest-sound f args count 0 l k)) in
       record { sends = p; ending = q }
 
--- "one theorem about the whole run"
+-- soundness of the whole run (M 9.1)
 pub demand-3 : Demand3
 demand-3 b counts o a f args s v c count =
     run-sound (modelOf b) (opened-wellformed b counts o) (verdict-acceptable (modelOf b) a) f args s v c count

@@ -3,14 +3,13 @@
 use Prim.Native.Nat.{ℕ, zero, suc, _≤_, _<_}
 use native.Mathlib.Nat.{not-suc-le-zero, eq-zero-or-pos, lt-trans}
 use native.Mathlib.Omega.{arith}
-use mathlib.Core.Path.{_≡_, refl, sym, ap, _∙_}
-use mathlib.Core.Bool.{Bool, true, false, _||_, false≢true}
+use mathlib.Core.Path.{_≡_, refl}
+use mathlib.Core.Bool.{true, _||_}
 use mathlib.Core.Logic.{_⊎_, inl, inr}
-use mathlib.Core.List.{List, [], _∷_, List·Memᴰ, List·Memᴰ·head, List·Memᴰ·tail}
+use mathlib.Core.List.{List, [], _∷_, List·Memᴰ, List·Memᴰ·head}
 use lib.Dec.{eqb, ltb}
-use lib.ListN.{length}
-use borrow.Author.Tests.{eqb-true, eq-eqb, ltb-true, lt-ltb}
-use Rattle.rules.specs.Bounded.{any, every, matching}
+use borrow.Author.Tests.{eqb-true, eq-eqb, ltb-true}
+use Rattle.rules.specs.Bounded.{any}
 use Rattle.rules.specs.Model.{Model, Wellformed, present}
 use Rattle.rules.specs.Subclass.{Under, itself, parent, subclassWithin, subclass, under}
 use Rattle.rules.proofs.Lists.{agree, or-cases, or-left, or-right, any-mem, any-from, every-mem, matching-refl, matching-trans, matching-antisym}
@@ -100,7 +99,7 @@ module _ (M : Model) (w : Wellformed M) where
   unfolding under
   under-antisym xs ys h e f = matching-antisym (subclass M) xs ys (λ a b m n. subclass-antisym a b (present-below h m)) e f
 
-  -- "Every class is under class 0": each class but 0 has a parent, and parents are lower
+  -- everything is under class 0 (M 4.1): each class but 0 has a parent, and parents are lower
   root-within : (n a : ℕ) → a < M .classes → a ≤ n → Under M a 0
   root-within zero a h k = let z : a ≡ 0 = omega arith in rw z itself
   root-within (suc n) a h k = go (eq-zero-or-pos a) (M .parents a) refl (λ p r l. root-within n p r l)

@@ -1,13 +1,13 @@
 -- Static types: the type of a send holds what the result class of some licensing signature is under, and is the greatest lower bound of those results.
 -- Assumes nothing.
 use Prim.Native.Nat.{ℕ, _<_}
-use mathlib.Core.Path.{_≡_, refl, sym, ap, _∙_}
+use mathlib.Core.Path.{_≡_, refl}
 use mathlib.Core.Bool.{Bool, true, false, _&&_, _||_}
 use mathlib.Core.Logic.{_↔_}
-use mathlib.Core.List.{List, [], _∷_, map, List·Memᴰ, List·Memᴰ·head, Memᴰ·map, Memᴰ·of-map}
+use mathlib.Core.List.{List, [], _∷_, List·Memᴰ, List·Memᴰ·head, Memᴰ·map, Memᴰ·of-map}
 use lib.Dec.{eqb}
 use borrow.Author.Tests.{eqb-true, eq-eqb}
-use Rattle.rules.specs.Bounded.{upto, any, keep}
+use Rattle.rules.specs.Bounded.{upto, any}
 use Rattle.rules.specs.Model.{Model}
 use Rattle.rules.specs.Subclass.{subclass}
 use Rattle.rules.specs.Types.{Static, inType, licenses, licensing, sendType}
@@ -47,7 +47,7 @@ pub licence-result : (M : Model) (f : ℕ) (types : List Static) {s : ℕ} → L
 unfolding sendType
 licence-result M f types l = Memᴰ·map (M .sigResult) (licence-licensing M f types l)
 
--- "the union over all licensing signatures of their result classes' types"
+-- a class is in the type of a send exactly when it is in the type of some licensing signature's result (M 7.2)
 pub send-type-union : (M : Model) (f : ℕ) (types : List Static) (b : ℕ)
     → (inType M (sendType M f types) b ≡ true) ↔ ((s : ℕ) × Licence M f types s × (subclass M (M .sigResult s) b ≡ true))
 unfolding inType
@@ -62,7 +62,7 @@ send-type-union M f types b = (
 pub record Below (M : Model) (t u : Static) : Type 0 where
   pub has : (b : ℕ) → inType M u b ≡ true → inType M t b ≡ true
 
--- "the report's greatest lower bound": the send's type is below each licensing signature's result, and each type below all of these is below it
+-- The type of a send is the greatest lower bound of the Diesel report: it is below each licensing signature's result, and each type below all of these is below it.
 pub send-type-lower : (M : Model) (f : ℕ) (types : List Static) (s : ℕ) → Licence M f types s → Below M (sendType M f types) (M .sigResult s ∷ [])
 unfolding inType any
 send-type-lower M f types s l =

@@ -130,7 +130,7 @@ operands-hold M n (x ∷ y ∷ rest) e =
 module _ (b : List ℕ) (r : Rules b) where
   arity-within : (f : ℕ) → f < functionCount b → arityOf b f ≤ places
   unfolding functionRule
-  arity-within f h = leb-true (arityOf b f) 3 (r .ofFunction f h)
+  arity-within f h = leb-true (arityOf b f) places (r .ofFunction f h)
 
   -- the used places of a tuple of a present function are as many as its arguments
   used-length : (f : ℕ) → f < functionCount b → (t : List ℕ) → length t ≡ places → length (take (arityOf b f) t) ≡ arityOf b f

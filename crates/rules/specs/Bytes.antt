@@ -7,7 +7,7 @@ use lib.ListN.{getD, take, drop}
 unfoldable pub byte : List ℕ → ℕ → ℕ
 byte b i = getD b i 0
 
--- "Two-byte numbers are little-endian."
+-- a number of two bytes, the low one first (M 2.1)
 unfoldable pub word : List ℕ → ℕ → ℕ
 word b i = byte b i + 256 * byte b (i + 1)
 

@@ -1,4 +1,4 @@
--- "What is returned, and when": each entry point's answer, and what scratch and row hold afterwards, on refusals too.
+-- The calls (M 10): each entry point's answer, and what scratch and row hold afterwards, on refusals too.
 -- Assumes nothing.
 use Prim.Native.Nat.{ℕ, _/_, _%_}
 use mathlib.Core.Bool.{Bool, true, false, cond, _&&_}
@@ -14,19 +14,23 @@ use Rattle.rules.specs.Types.{Static, inType, sendType}
 use Rattle.rules.specs.Coverage.{concreteClass, covers, judge, coverageRefusal, verdictNaming, verdict}
 use Rattle.rules.specs.Machine.{Outcome, run}
 
--- "scratch under 16,384 bytes", "row under 128 bytes"; the subclass matrix has 128 columns
+-- the least lengths of a lent scratch and of a lent row (M 10.2, 10.3)
 abbrev pub scratchBytes : ℕ
 scratchBytes = 16384
 
 abbrev pub rowBytes : ℕ
 rowBytes = 128
 
+-- the subclass matrix has 128 columns
+abbrev pub matrixStride : ℕ
+matrixStride = 128
+
 module _ {A : Type 0} where
   unfoldable pub onOpening : Answer (List ℕ) → Model → (Model → Answer A) → Answer A
   onOpening (gives counts) M answer = answer M
   onOpening (refuses number values) M answer = refuses number values
 
-  -- "Every call opens the bundle first."
+  -- a call on a bundle that does not open says what opening says (M 3.1)
   unfoldable pub whenOpen : List ℕ → (Model → Answer A) → Answer A
   whenOpen b answer = onOpening (opening b) (modelOf b) answer
 
@@ -35,7 +39,7 @@ module _ {A : Type 0} where
   withScratch b scratch answer = whenOpen b (λ M. require (leb scratchBytes scratch) 19 (answer M))
 
 -- What follows 19 is a definition of its own for each call, over the model.
--- A call's send is a function and a number for each of the layout's places. Of 18: "absent function … or class; unused argument not 0".
+-- A call's send is a function and a number for each of the layout's places. 18 where the function or a class is absent, or an unused place is not 0 (M 10.4).
 unfoldable pub sendRule : Model → ℕ → List ℕ → Bool
 sendRule M f tuple = ltb f (M .functions) && tupleRule (M .classes) (M .arity f) tuple
 
@@ -43,11 +47,11 @@ sendRule M f tuple = ltb f (M .functions) && tupleRule (M .classes) (M .arity f)
 unfoldable pub used : Model → ℕ → List ℕ → List ℕ
 used M f tuple = take (M .arity f) tuple
 
--- "Opening … answers the four record counts"
+-- opening as a call (M 3.3)
 unfoldable pub openingCall : List ℕ → Answer (List ℕ)
 openingCall b = opening b
 
--- "the ancestry question on two classes answers yes or no"
+-- the ancestry call (M 4.2)
 unfoldable pub ancestryIn : ℕ → ℕ → Model → Answer Bool
 ancestryIn a c M = require (ltb a (M .classes) && ltb c (M .classes)) 18 (gives (subclass M a c))
 
@@ -59,7 +63,7 @@ foundAnswer f tuple (found m) = gives m
 foundAnswer f tuple missing = refuses 10 (f ∷ tuple)
 foundAnswer f tuple (ambiguous m n) = refuses 11 (f ∷ tuple ++ m ∷ n ∷ [])
 
--- "Lookup takes abstract classes too."
+-- the lookup call; abstract classes are let through (M 5.6)
 unfoldable pub lookupIn : ℕ → List ℕ → Model → Answer ℕ
 lookupIn f tuple M = require (sendRule M f tuple) 18 (foundAnswer f tuple (lookup M f (used M f tuple)))
 
@@ -70,7 +74,7 @@ unfoldable pub licensed : Static → Answer Static
 licensed [] = refuses 16 []
 licensed (c ∷ cs) = gives (c ∷ cs)
 
--- "The send type call takes a function and a class for each argument, abstract ones too."
+-- the send type call; abstract classes are let through (M 7.5)
 unfoldable pub sendTypeIn : ℕ → ℕ → List ℕ → Model → Answer Static
 sendTypeIn row f tuple M =
     require (leb rowBytes row) 20
@@ -86,7 +90,7 @@ checkCall b scratch = withScratch b scratch verdict
 unfoldable pub checkCallNaming : List ℕ → ℕ → List ℕ → Answer (Unit {0})
 checkCallNaming b scratch args = withScratch b scratch (λ M. verdictNaming M args)
 
--- Of 18 for a witness: "absent … signature", "an abstract class at a used place", "a witness tuple not covered".
+-- 18 of a witness: no such signature, an abstract class among the arguments, a tuple that the signature does not cover (M 10.4).
 unfoldable pub witnessRule : Model → ℕ → List ℕ → Bool
 witnessRule M s tuple =
     ltb s (M .signatures)
@@ -94,7 +98,7 @@ witnessRule M s tuple =
     && every (concreteClass M) (used M (M .sigFunction s) tuple)
     && covers M s (used M (M .sigFunction s) tuple)
 
--- "A witness check takes a signature and a tuple and answers by the coverage rule: 10 to 13, or 'holds'."
+-- the witness call: the coverage rule for one signature and one tuple (M 6.5)
 unfoldable pub witnessAnswer : Model → ℕ → List ℕ → Answer (Unit {0})
 witnessAnswer M s args = coverageRefusal M s args (judge M s args)
 
@@ -104,7 +108,7 @@ witnessIn s tuple M = require (witnessRule M s tuple) 18 (witnessAnswer M s (use
 unfoldable pub witnessCall : List ℕ → ℕ → ℕ → List ℕ → Answer (Unit {0})
 witnessCall b scratch s tuple = withScratch b scratch (witnessIn s tuple)
 
--- "The body view hands back the part of the bundle that is the method's code."
+-- the body view: a method's code (M 10.6)
 unfoldable pub bodyViewCall : List ℕ → ℕ → Answer (List ℕ)
 bodyViewCall b m = whenOpen b (λ M. require (ltb m (M .methods)) 18 (gives (codeOf b m)))
 
@@ -116,7 +120,7 @@ startOn (refuses number values) at = 0
 unfoldable pub bodyViewStart : List ℕ → ℕ → ℕ
 bodyViewStart b m = startOn (bodyViewCall b m) (codeAt b m)
 
--- "A run has a function, concrete argument classes and a step count of 32 bits."
+-- the run call; 18 where an argument class is abstract (M 8.1, 10.4)
 unfoldable pub runIn : ℕ → List ℕ → ℕ → Model → Answer Outcome
 runIn f tuple count M =
     require (sendRule M f tuple && every (concreteClass M) (used M f tuple)) 18 (gives ((run M f (used M f tuple) count) .outcome))
@@ -124,7 +128,7 @@ runIn f tuple count M =
 unfoldable pub runCall : List ℕ → ℕ → ℕ → List ℕ → ℕ → Answer Outcome
 runCall b scratch f tuple count = withScratch b scratch (runIn f tuple count)
 
--- the first n bytes are these, "later bytes untouched"
+-- the first n bytes are these, and those behind them stay
 unfoldable pub overwrite : ℕ → (ℕ → ℕ) → List ℕ → List ℕ
 overwrite n new old = map new (upto n) ++ drop n old
 
@@ -132,16 +136,16 @@ unfoldable pub bit : Bool → ℕ
 bit true = 1
 bit false = 0
 
--- "byte 128·a + b is 1 when a is under b, else 0, for a and b up to 127 (absent classes 0)"
+-- byte k of the matrix: whether the class of its row is under that of its column; 0 where one of the two is no class (M 10.2)
 unfoldable pub matrixByte : Model → ℕ → ℕ
 matrixByte M k =
-    bit (ltb (k / rowBytes) (M .classes) && ltb (k % rowBytes) (M .classes) && subclass M (k / rowBytes) (k % rowBytes))
+    bit (ltb (k / matrixStride) (M .classes) && ltb (k % matrixStride) (M .classes) && subclass M (k / matrixStride) (k % matrixStride))
 
 unfoldable pub scratchOn : Answer (List ℕ) → Model → List ℕ → List ℕ
 scratchOn (gives counts) M scratch = cond (leb scratchBytes (length scratch)) (overwrite scratchBytes (matrixByte M) scratch) scratch
 scratchOn (refuses number values) M scratch = scratch
 
--- "Scratch is untouched by 1 to 9 and 19; otherwise" it holds the matrix: the same after every call that takes it.
+-- The scratch stays where the bundle does not open or the scratch is too short, and else holds the matrix: the same after every call that takes it (M 10.2).
 unfoldable pub scratchAfter : List ℕ → List ℕ → List ℕ
 scratchAfter b scratch = scratchOn (opening b) (modelOf b) scratch
 
@@ -149,6 +153,6 @@ unfoldable pub rowOn : Answer Static → Model → List ℕ → List ℕ
 rowOn (gives t) M row = overwrite rowBytes (λ k. bit (inType M t k)) row
 rowOn (refuses number values) M row = row
 
--- "byte b of the first 128 is 1 when b is in the type, else 0 …; every refusal, 16 for no licence included, leaves the row untouched"
+-- the row: a 1 for each class of the type, where the call gives one; as it was after any refusal, by 16 too (M 10.3)
 unfoldable pub rowAfter : List ℕ → ℕ → List ℕ → ℕ → List ℕ → List ℕ
 rowAfter b scratch row f tuple = rowOn (sendTypeCall b scratch (length row) f tuple) (modelOf b) row

@@ -1,8 +1,8 @@
--- "Coverage" (what the Diesel report calls a complete, consistent and conforming implementation of a signature), and the verdict.
+-- Coverage (M 6; what the Diesel report calls a complete, consistent and conforming implementation of a signature), and the verdict.
 -- Assumes nothing.
 use Prim.Native.Nat.{ℕ}
 use mathlib.Core.Path.{_≡_}
-use mathlib.Core.Bool.{Bool, true, false, cond, not, _&&_}
+use mathlib.Core.Bool.{Bool, true, false, cond, _&&_}
 use mathlib.Core.List.{List, [], _∷_, _++_, map}
 use mathlib.Core.Option.{Option, none, some}
 use lib.Dec.{ltb}
@@ -13,11 +13,11 @@ use Rattle.rules.specs.Subclass.{subclass, under}
 use Rattle.rules.specs.Lookup.{Found, found, missing, ambiguous, lookup}
 use Rattle.rules.specs.Types.{Typing, typed, breaks, typeBody}
 
--- "A signature covers argument classes that are each under its own."
+-- a signature covers the tuples whose classes are under its own, place by place (M 6.1)
 unfoldable pub covers : Model → ℕ → List ℕ → Bool
 covers M s args = under M args (M .sigArgs s)
 
--- "Declared classes hold the arguments when each argument class is under the declared class at its place."
+-- the declared classes of m hold the arguments: each argument is under the one at its place (M 6.2)
 unfoldable pub declaredHold : Model → ℕ → List ℕ → Bool
 declaredHold M m args = under M args (M .declared m)
 
@@ -26,8 +26,8 @@ pub data Judgement : Type 0 where
   holds : ℕ → Judgement
   fails : ℕ → List ℕ → Judgement
 
--- "lookup finds one method (else 10 or 11), each class is under that method's declared class (else 12), and the method's result class is under the
--- signature's (else 13); the reasons are tried in that order"
+-- The coverage rule (M 6.2): lookup finds a method, whose declared classes hold the arguments and whose result is under the signature's. The reasons to
+-- fail are tried in the order of their numbers, 10 to 13.
 unfoldable pub judgeFound : Model → ℕ → List ℕ → Found → Judgement
 judgeFound M s args missing = fails 10 []
 judgeFound M s args (ambiguous m n) = fails 11 (m ∷ n ∷ [])
@@ -56,7 +56,7 @@ unfoldable pub prefixed : List ℕ → List (List ℕ) → List (List ℕ)
 prefixed [] tails = []
 prefixed (k ∷ ks) tails = map (λ t. k ∷ t) tails ++ prefixed ks tails
 
--- "Tuples are built place by place …; with no arguments there is one empty tuple": the tuples of concrete classes under the given ones
+-- the tuples of concrete classes under the given ones, place by place; of no classes there is the empty one (M 6.3)
 unfoldable pub tuples : Model → List ℕ → List (List ℕ)
 tuples M [] = [] ∷ []
 tuples M (c ∷ cs) = prefixed (concreteUnder M c) (tuples M cs)
@@ -68,7 +68,7 @@ unfoldable pub isSome : {A : Type 0} → Option A → Bool
 isSome none = false
 isSome (some x) = true
 
--- "The check stops at the lowest-numbered broken signature"
+-- the lowest broken signature (M 6.4)
 unfoldable pub brokenSignature : Model → Option ℕ
 brokenSignature M = first (λ s. isSome (brokenTuple M s)) (upto (M .signatures))
 
@@ -76,11 +76,11 @@ unfoldable pub breaking : Typing → Bool
 breaking typed = false
 breaking (breaks number at) = true
 
--- "The lowest broken method and its first broken instruction are named"
+-- the lowest method whose body breaks (M 7.3)
 unfoldable pub brokenMethod : Model → Option ℕ
 brokenMethod M = first (λ m. breaking (typeBody M m)) (upto (M .methods))
 
--- the refusal of a tuple under a signature: "signature, function, tuple, method(s)"
+-- the refusal of a tuple under a signature, with what is named beside it (M 11)
 unfoldable pub coverageRefusal : Model → ℕ → List ℕ → Judgement → Answer (Unit {0})
 coverageRefusal M s args (holds m) = gives tt
 coverageRefusal M s args (fails number ms) = refuses number (s ∷ M .sigFunction s ∷ padded args ++ ms)
@@ -93,7 +93,7 @@ unfoldable pub bodyVerdict : Model → Option ℕ → Answer (Unit {0})
 bodyVerdict M none = gives tt
 bodyVerdict M (some m) = bodyRefusal m (typeBody M m)
 
--- "coverage before bodies"; the tuple is the one that a coverage refusal names
+-- signatures are judged before bodies (M 7.4); the tuple is the one that a coverage refusal names
 unfoldable pub coverageVerdict : Model → Option ℕ → List ℕ → Answer (Unit {0})
 coverageVerdict M none args = bodyVerdict M (brokenMethod M)
 coverageVerdict M (some s) args = coverageRefusal M s args (judge M s args)
@@ -101,7 +101,7 @@ coverageVerdict M (some s) args = coverageRefusal M s args (judge M s args)
 unfoldable pub verdictNaming : Model → List ℕ → Answer (Unit {0})
 verdictNaming M args = coverageVerdict M (brokenSignature M) args
 
--- "names some broken tuple of it": a tuple of concrete classes that the lowest broken signature, if there is one, covers, and for which the rule fails
+-- what the check may name (M 6.4): a tuple of concrete classes that the lowest broken signature, if there is one, covers, and for which the rule fails
 pub record Names (M : Model) (args : List ℕ) (s : ℕ) : Type 0 where
   pub covered : covers M s args ≡ true
   pub concrete : every (concreteClass M) args ≡ true

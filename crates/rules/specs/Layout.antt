@@ -1,4 +1,4 @@
--- "The bundle": the directory, the records, the rule of each as a test that computes, and opening.
+-- The bundle (M 2 and 3): the directory, the records, the rule of each as a test that computes, and opening.
 -- Assumes nothing.
 use Prim.Native.Nat.{ℕ, zero, suc, _+_, _*_, _/_, _%_}
 use mathlib.Core.Bool.{Bool, true, false, not, _&&_, _||_, Bool·beq}
@@ -9,12 +9,12 @@ use lib.ListN.{length, take, drop, replicate}
 use Rattle.rules.specs.Bounded.{upto, sum, every, any, first, matching}
 use Rattle.rules.specs.Bytes.{byte, word, part}
 
--- A call's answer: what it gives, or one of document 01's numbers with the values that the table names beside it.
+-- A call's answer: what it gives, or one of the numbers 1 to 20 with the values that are named beside it (M 11).
 pub data Answer (A : Type 0) : Type 0 where
   gives : A → Answer A
   refuses : ℕ → List ℕ → Answer A
 
--- "The limits belong to the bundle itself: 1 to 128 classes, at most 64 functions, 256 signatures, 512 methods, 3 arguments."
+-- the limits (M 2.3)
 abbrev pub maxClasses : ℕ
 maxClasses = 128
 
@@ -53,12 +53,12 @@ abbrev pub classBytes : ℕ
 classBytes = 6
 
 abbrev pub signatureBytes : ℕ
-signatureBytes = 5
+signatureBytes = 2 + places
 
 abbrev pub methodBytes : ℕ
-methodBytes = 12
+methodBytes = 6 + 2 * places
 
--- "six pairs, each a two-byte offset and a two-byte length in bytes"
+-- the directory's entry for section k: its place and its length (M 2.2)
 unfoldable pub offset : List ℕ → ℕ → ℕ
 offset b k = word b (4 * k)
 
@@ -68,18 +68,18 @@ extent b k = word b (4 * k + 2)
 unfoldable pub sectionEnd : List ℕ → ℕ → ℕ
 sectionEnd b k = offset b k + extent b k
 
--- "A bundle is 24 to 65,535 bytes."
+-- number 1 (M 2.1)
 unfoldable pub sizeRule : List ℕ → Bool
 sizeRule b = leb 24 (length b) && leb (length b) 65535
 
--- "The first offset is 24, each next offset is the last offset plus the last length, and the last section ends the bundle."
+-- of number 2, the chain: the sections stand one behind the other, from the directory to the end of the bundle (M 2.2)
 unfoldable pub chainRule : List ℕ → Bool
 chainRule b =
     eqb (offset b classSection) 24
     && every (λ k. eqb (offset b (suc k)) (sectionEnd b k)) (upto codeSection)
     && eqb (sectionEnd b codeSection) (length b)
 
--- "classes, signatures or methods not whole records; or an odd code section, or code without methods"
+-- of number 2, the lengths: sections have whole records and code whole instructions, and code has methods (M 3.1)
 unfoldable pub wholeRule : List ℕ → Bool
 wholeRule b =
     eqb (extent b classSection % classBytes) 0
@@ -100,7 +100,7 @@ signatureCount b = extent b signatureSection / signatureBytes
 unfoldable pub methodCount : List ℕ → ℕ
 methodCount b = extent b methodSection / methodBytes
 
--- "more classes, functions, signatures or methods than the limit, or no class"
+-- number 3 (M 2.3)
 unfoldable pub limitRule : List ℕ → Bool
 limitRule b =
     ltb 0 (classCount b)
@@ -109,19 +109,19 @@ limitRule b =
     && leb (signatureCount b) maxSignatures
     && leb (methodCount b) maxMethods
 
--- "The lists follow in class order from offset 0 without gaps and end the section", and so do the bodies. Record k's list lies within its section,
--- begins where the lengths before it add up to, and, "an unfinished list is put to the last record", ends the section where k is the last of n.
+-- Lists of parents, and bodies, stand one behind the other and fill their section (M 2.4, 2.7). Record k's list lies within its section,
+-- begins where the lengths before it add up to, and ends the section where k is the last of n: bytes left over are the last record's fault (M 3.2).
 unfoldable pub sequenceRule : (ℕ → ℕ) → (ℕ → ℕ) → ℕ → ℕ → ℕ → Bool
 sequenceRule start size n end k =
     eqb (start k) (sum size k)
     && leb (start k + size k) end
     && (ltb (suc k) n || eqb (start k + size k) end)
 
--- "Unused argument places hold 0. Every class and function that a record names is present." Of a tuple the first n places are used.
+-- Of a tuple the first n places are used: these hold classes that are there, and the rest hold 0 (M 2.9).
 unfoldable pub tupleRule : ℕ → ℕ → List ℕ → Bool
 tupleRule classes n tuple = every (λ c. ltb c classes) (take n tuple) && every (λ c. eqb c 0) (drop n tuple)
 
--- "Class, 6 bytes: kind (0 abstract, 1 concrete), a zero byte, offset and length of its parent list within the parents section."
+-- the class record (M 2.4)
 unfoldable pub classAt : List ℕ → ℕ → ℕ
 classAt b c = offset b classSection + classBytes * c
 
@@ -137,7 +137,7 @@ listLength b c = word b (classAt b c + 4)
 unfoldable pub parentsOf : List ℕ → ℕ → List ℕ
 parentsOf b c = part b (offset b parentSection + listOffset b c) (listLength b c)
 
--- "a list rises strictly": each element is above the one before it, which the first argument gives
+-- each element of a list is above the one before it, which the first argument gives
 unfoldable pub risesAbove : ℕ → List ℕ → Bool
 risesAbove x [] = true
 risesAbove x (y ∷ ys) = ltb x y && risesAbove y ys
@@ -146,7 +146,7 @@ unfoldable pub rises : List ℕ → Bool
 rises [] = true
 rises (x ∷ xs) = risesAbove x xs
 
--- "A parent is one byte, a class number lower than the class's own; a list rises strictly. Class 0 has no parent, every other class at least one."
+-- number 4: kind, filler and list of a class. Parents are lower than their class and rise; class 0 alone has none (M 2.4)
 unfoldable pub classRule : List ℕ → ℕ → Bool
 classRule b c =
     leb (kindOf b c) 1
@@ -156,14 +156,14 @@ classRule b c =
     && rises (parentsOf b c)
     && Bool·beq (eqb c 0) (eqb (listLength b c) 0)
 
--- "Function, 1 byte: its argument count, 0 to 3."
+-- the function record, and number 5 (M 2.5)
 unfoldable pub arityOf : List ℕ → ℕ → ℕ
 arityOf b f = byte b (offset b functionSection + f)
 
 unfoldable pub functionRule : List ℕ → ℕ → Bool
 functionRule b f = leb (arityOf b f) places
 
--- "Signature, 5 bytes: function, three argument classes, result class."
+-- the signature record, and number 6 (M 2.6)
 unfoldable pub signatureAt : List ℕ → ℕ → ℕ
 signatureAt b s = offset b signatureSection + signatureBytes * s
 
@@ -174,7 +174,7 @@ unfoldable pub sigTupleOf : List ℕ → ℕ → List ℕ
 sigTupleOf b s = part b (signatureAt b s + 1) places
 
 unfoldable pub sigResultOf : List ℕ → ℕ → ℕ
-sigResultOf b s = byte b (signatureAt b s + 4)
+sigResultOf b s = byte b (signatureAt b s + (1 + places))
 
 unfoldable pub signatureRule : List ℕ → ℕ → Bool
 signatureRule b s =
@@ -182,7 +182,7 @@ signatureRule b s =
     && tupleRule (classCount b) (arityOf b (sigFunctionOf b s)) (sigTupleOf b s)
     && ltb (sigResultOf b s) (classCount b)
 
--- "Method, 12 bytes: function, three specialisers, three declared classes, result class, offset and length of its body within the code section."
+-- the method record (M 2.7)
 unfoldable pub methodAt : List ℕ → ℕ → ℕ
 methodAt b m = offset b methodSection + methodBytes * m
 
@@ -193,16 +193,16 @@ unfoldable pub specialiserTupleOf : List ℕ → ℕ → List ℕ
 specialiserTupleOf b m = part b (methodAt b m + 1) places
 
 unfoldable pub declaredTupleOf : List ℕ → ℕ → List ℕ
-declaredTupleOf b m = part b (methodAt b m + 4) places
+declaredTupleOf b m = part b (methodAt b m + (1 + places)) places
 
 unfoldable pub resultOf : List ℕ → ℕ → ℕ
-resultOf b m = byte b (methodAt b m + 7)
+resultOf b m = byte b (methodAt b m + (1 + 2 * places))
 
 unfoldable pub bodyOffset : List ℕ → ℕ → ℕ
-bodyOffset b m = word b (methodAt b m + 8)
+bodyOffset b m = word b (methodAt b m + (2 + 2 * places))
 
 unfoldable pub bodyLength : List ℕ → ℕ → ℕ
-bodyLength b m = word b (methodAt b m + 10)
+bodyLength b m = word b (methodAt b m + (4 + 2 * places))
 
 -- where the body begins within the bundle
 abbrev pub codeAt : List ℕ → ℕ → ℕ
@@ -211,7 +211,7 @@ codeAt b m = offset b codeSection + bodyOffset b m
 unfoldable pub codeOf : List ℕ → ℕ → List ℕ
 codeOf b m = part b (codeAt b m) (bodyLength b m)
 
--- "Bodies follow in method order from offset 0 without gaps and end the section; each is 2 to 128 bytes, an even number."
+-- number 7: what a method names is there, and its body stands in its row, of an even length within the limits (M 2.7, 2.9)
 unfoldable pub methodRule : List ℕ → ℕ → Bool
 methodRule b m =
     ltb (functionOf b m) (functionCount b)
@@ -223,28 +223,28 @@ methodRule b m =
     && leb (bodyLength b m) 128
     && eqb (bodyLength b m % 2) 0
 
--- "Two methods of one function never have equal specialisers." Unused places are 0 in both by the rule before.
+-- Twins: methods of a function with the same specialisers (M 2.9). Unused places are 0 in both by the rule before.
 unfoldable pub twins : List ℕ → ℕ → ℕ → Bool
 twins b m n = eqb (functionOf b m) (functionOf b n) && matching eqb (specialiserTupleOf b m) (specialiserTupleOf b n)
 
--- "an earlier twin exists"
+-- number 8: a method has no twin before it
 unfoldable pub twinRule : List ℕ → ℕ → Bool
 twinRule b m = not (any (λ n. twins b m n) (upto m))
 
--- "0 is ARG (operand an argument place, counted from 0), 1 is NEW (a class), 2 is SEND (a function)." The numbers are what there is of each.
+-- An operation, and an operand that names something there (M 2.8). The numbers are what there is of each.
 unfoldable pub instructionRule : ℕ → ℕ → ℕ → ℕ → ℕ → Bool
 instructionRule arguments classes functions zero operand = ltb operand arguments
 instructionRule arguments classes functions (suc zero) operand = ltb operand classes
 instructionRule arguments classes functions (suc (suc zero)) operand = ltb operand functions
 instructionRule arguments classes functions (suc (suc (suc n))) operand = false
 
--- "Instruction, 2 bytes: operation and operand."
+-- a test on each instruction of a body: its two bytes
 unfoldable pub everyPair : (ℕ → ℕ → Bool) → List ℕ → Bool
 everyPair p [] = true
 everyPair p (x ∷ []) = false
 everyPair p (x ∷ y ∷ rest) = p x y && everyPair p rest
 
--- "unknown operation, or an operand that is no argument place of the method's function, no class or no function of the bundle"
+-- number 9: every instruction of the method passes
 unfoldable pub codeRule : List ℕ → ℕ → Bool
 codeRule b m = everyPair (instructionRule (arityOf b (functionOf b m)) (classCount b) (functionCount b)) (codeOf b m)
 
@@ -253,7 +253,7 @@ unfoldable pub require : {A : Type 0} → Bool → ℕ → Answer A → Answer A
 require true number rest = rest
 require false number rest = refuses number []
 
--- A rule on records: "naming the lowest that breaks it".
+-- a rule on records: all keep it, or the lowest that breaks it is named
 unfoldable pub lowest : (ℕ → Bool) → ℕ → Option ℕ
 lowest rule n = first (λ k. not (rule k)) (upto n)
 
@@ -261,7 +261,7 @@ unfoldable pub requireEach : {A : Type 0} → Option ℕ → ℕ → Answer A �
 requireEach none number rest = rest
 requireEach (some k) number rest = refuses number (k ∷ [])
 
--- "Order: 1 to 9, each for all its records before the next and naming the lowest that breaks it." An opened bundle gives its four counts.
+-- Opening: the rules in the order of their numbers, each decided for the whole bundle before the next (M 3.1). A bundle that opens gives its four counts.
 unfoldable pub opening : List ℕ → Answer (List ℕ)
 opening b =
     require (sizeRule b) 1

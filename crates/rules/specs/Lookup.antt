@@ -1,4 +1,4 @@
--- "Lookup": which method a send finds.
+-- Lookup (M 5): which method a send finds.
 -- Assumes nothing.
 use Prim.Native.Nat.{ℕ}
 use mathlib.Core.Bool.{Bool, not, _&&_, _||_}
@@ -16,7 +16,7 @@ pub data Found : Type 0 where
   missing : Found
   ambiguous : ℕ → ℕ → Found
 
--- "A method applies to argument classes when each class is under its specialiser."
+-- the method applies to the tuple: each class is under the specialiser at its place (M 5.1)
 unfoldable pub applies : Model → List ℕ → ℕ → Bool
 applies M args m = under M args (M .specialisers m)
 
@@ -29,28 +29,28 @@ unfoldable pub applicableSoFar : Model → ℕ → List ℕ → List ℕ
 applicableSoFar M f chosen =
     keep (λ m. eqb (M .function m) f && under M chosen (take (length chosen) (M .specialisers m))) (upto (M .methods))
 
--- "One method is at least as specific as another when each of its specialisers is under the other's."
+-- m is at least as specific as n: place by place its specialiser is under that of n (M 5.2)
 unfoldable pub asSpecific : Model → ℕ → ℕ → Bool
 asSpecific M m n = under M (M .specialisers m) (M .specialisers n)
 
--- m is "at least as specific as every other applicable method"
+-- m is at least as specific as the rest of the list (M 5.3)
 unfoldable pub leads : Model → List ℕ → ℕ → Bool
 leads M ms m = every (λ n. eqb n m || asSpecific M m n) ms
 
--- m is one "that no other applicable method is at least as specific as"
+-- none of the rest of the list is at least as specific as m (M 5.5)
 unfoldable pub unbeaten : Model → List ℕ → ℕ → Bool
 unbeaten M ms m = every (λ n. eqb n m || not (asSpecific M n m)) ms
 
--- "naming the two lowest-numbered applicable methods that no other applicable method is at least as specific as, lower first"
+-- the rivals of a list: those which none of the rest equals or beats (M 5.5)
 unfoldable pub rivals : Model → List ℕ → List ℕ
 rivals M ms = keep (unbeaten M ms) ms
 
+-- the leader, or else the two lowest rivals in their order
 unfoldable pub leaderOr : Option ℕ → List ℕ → Found
 leaderOr (some m) rs = found m
 leaderOr none rs = ambiguous (getD rs 0 0) (getD rs 1 0)
 
--- "A lookup finds the applicable method that is at least as specific as every other applicable method. None applicable is 10. Otherwise, where no
--- such method exists, it is 11."
+-- What lookup makes of the applicable methods: without any it fails by 10, with a leader it finds that one, else it fails by 11 (M 5.3 to 5.5).
 unfoldable pub select : Model → List ℕ → Found
 select M [] = missing
 select M (m ∷ ms) = leaderOr (first (leads M (m ∷ ms)) (m ∷ ms)) (rivals M (m ∷ ms))

@@ -1,7 +1,7 @@
--- "The stepper": frames, one instruction with the ends of bodies that follow it, the run and the sends that it meets.
+-- The stepper (M 8): frames, one instruction with the ends of bodies that follow it, the run and the sends that it meets.
 -- Assumes nothing.
 use Prim.Native.Nat.{ℕ, zero, suc}
-use mathlib.Core.Bool.{Bool, true, false, cond}
+use mathlib.Core.Bool.{cond}
 use mathlib.Core.List.{List, [], _∷_, _++_}
 use lib.Dec.{leb, ltb}
 use lib.ListN.{length, getD, drop}
@@ -11,11 +11,11 @@ use Rattle.rules.specs.Lookup.{Found, found, missing, ambiguous, lookup}
 use Rattle.rules.specs.Types.{arguments}
 use Rattle.rules.specs.Coverage.{declaredHold}
 
--- "Deep when it would need a 33rd frame, the opening frame being the first"
+-- the most frames of a run (M 8.2)
 abbrev pub maxFrames : ℕ
 maxFrames = 32
 
--- "Values are class numbers." A method's activation: `at` is the number of its next instruction, `rest` what is left of its body from there on,
+-- A method's activation; values are classes (M 8.1). `at` is the number of its next instruction, `rest` what is left of its body from there on,
 -- `stack` its values with the top first.
 pub record Frame : Type 0 where
   pub method : ℕ
@@ -32,21 +32,21 @@ pub data Ending : Type 0 where
   stopped : ℕ → List ℕ → Ending
 
 -- Between instructions a run goes on with instruction i of a frame, whose `rest` then follows i, above its callers; or it ends.
-pub data Landing : Type 0 where
-  goes : Instr → Frame → List Frame → Landing
-  ends : Ending → Landing
+pub data Resumption : Type 0 where
+  goes : Instr → Frame → List Frame → Resumption
+  ends : Ending → Resumption
 
--- An instruction is made, which is one step, or fails: "A failing instruction is not counted."
+-- An instruction is made, which is one step, or fails, which is none (M 8.5).
 pub data Turn : Type 0 where
-  made : Landing → Turn
+  made : Resumption → Turn
   failed : Ending → Turn
 
 -- a number with the frame's method and next instruction
 unfoldable pub stoppedAt : ℕ → Frame → Ending
 stoppedAt number g = stopped number (g .method ∷ g .at ∷ [])
 
--- A frame with instructions left goes on. "At the end of a body its one value (else 14)" is handed to `return`.
-unfoldable pub settle : List Instr → List ℕ → Frame → List Frame → (ℕ → Landing) → Landing
+-- A frame with instructions left goes on. At the end of a body its value is handed to `return`; a body that does not end with one value stops by 14 (M 8.4).
+unfoldable pub settle : List Instr → List ℕ → Frame → List Frame → (ℕ → Resumption) → Resumption
 settle (i ∷ rest) stack g callers return =
     goes i (record { method = g .method; args = g .args; at = g .at; rest = rest; stack = stack }) callers
 settle [] [] g callers return = ends (stoppedAt 14 g)
@@ -56,17 +56,17 @@ settle [] (v ∷ w ∷ vs) g callers return = ends (stoppedAt 14 g)
 unfoldable pub push : ℕ → Frame → Frame
 push v g = record { method = g .method; args = g .args; at = g .at; rest = g .rest; stack = v ∷ g .stack }
 
--- the value of a body "goes to the caller's stack, at no cost, until the opening body ends"
-unfoldable pub land : Frame → List Frame → Landing
-land g [] = settle (g .rest) (g .stack) g [] (λ v. ends (value v))
-land g (h ∷ hs) = settle (g .rest) (g .stack) g (h ∷ hs) (λ v. land (push v h) hs)
+-- the value of a body that ended is put on its caller's stack, and no step is counted; the value of the opening body ends the run (M 8.4)
+unfoldable pub resume : Frame → List Frame → Resumption
+resume g [] = settle (g .rest) (g .stack) g [] (λ v. ends (value v))
+resume g (h ∷ hs) = settle (g .rest) (g .stack) g (h ∷ hs) (λ v. resume (push v h) hs)
 
 -- What a send comes to before frames are counted: the method whose frame it opens, or a number with the methods that it names.
 pub data Target : Type 0 where
   enters : ℕ → Target
   stops : ℕ → List ℕ → Target
 
--- "A SEND tries … 10, 11, 12"
+-- what a send finds: a method whose declared classes hold the arguments, or why the run stops, by 10, 11 or 12 (M 8.2)
 unfoldable pub targetFound : Model → List ℕ → Found → Target
 targetFound M args missing = stops 10 []
 targetFound M args (ambiguous m n) = stops 11 (m ∷ n ∷ [])
@@ -75,11 +75,11 @@ targetFound M args (found m) = cond (declaredHold M m args) (enters m) (stops 12
 unfoldable pub target : Model → ℕ → List ℕ → Target
 target M f args = targetFound M args (lookup M f args)
 
--- the opening of a frame for method m above the callers, "then Deep"
+-- the opening of a frame for method m above the callers; Deep where there are as many as there may be (M 8.2)
 unfoldable pub enter : Model → ℕ → List ℕ → List Frame → Turn
 enter M m args callers =
     cond (ltb (length callers) maxFrames)
-    (made (land (record { method = m; args = args; at = 0; rest = M .body m; stack = [] }) callers))
+    (made (resume (record { method = m; args = args; at = 0; rest = M .body m; stack = [] }) callers))
     (failed deep)
 
 unfoldable pub callTarget : Model → ℕ → List ℕ → List Frame → Target → Turn
@@ -94,11 +94,10 @@ call M f args callers = callTarget M f args callers (target M f args)
 unfoldable pub after : Frame → List ℕ → Frame
 after g stack = record { method = g .method; args = g .args; at = suc (g .at); rest = g .rest; stack = stack }
 
--- "ARG i puts the frame's argument i on the frame's stack, NEW c puts c there; a SEND takes its arguments off it, last argument on top, and opens a
--- frame for the method found." NEW of an abstract class is 15, a SEND with too few values 14.
+-- One instruction in the top frame (M 8.3). NEW of an abstract class is 15, a SEND with too few values 14.
 unfoldable pub turn : Model → Instr → Frame → List Frame → Turn
-turn M (arg i) g callers = made (land (after g (getD (g .args) i 0 ∷ g .stack)) callers)
-turn M (new c) g callers = cond (M .concrete c) (made (land (after g (c ∷ g .stack)) callers)) (failed (stoppedAt 15 g))
+turn M (arg i) g callers = made (resume (after g (getD (g .args) i 0 ∷ g .stack)) callers)
+turn M (new c) g callers = cond (M .concrete c) (made (resume (after g (c ∷ g .stack)) callers)) (failed (stoppedAt 15 g))
 turn M (send f) g callers =
     cond (leb (M .arity f) (length (g .stack)))
     (call M f (arguments (M .arity f) (g .stack)) (after g (drop (M .arity f) (g .stack)) ∷ callers))
@@ -113,14 +112,13 @@ pub record Send : Type 0 where
 unfoldable pub meeting : Model → ℕ → List ℕ → Send
 meeting M f args = record { function = f; args = args; target = target M f args }
 
--- "each SEND that it comes to … with at least as many values on the frame's stack as the function has arguments; the argument classes are then those
--- top values"
+-- the send that a run meets at an instruction: that of a SEND for which the stack has values enough, with these as its arguments (M 8.7)
 unfoldable pub sent : Model → Instr → Frame → List Send
 sent M (arg i) g = []
 sent M (new c) g = []
 sent M (send f) g = cond (leb (M .arity f) (length (g .stack))) (meeting M f (arguments (M .arity f) (g .stack)) ∷ []) []
 
--- "The answer holds the steps made."
+-- how a run ends, and the steps it made (M 8.6)
 pub record Outcome : Type 0 where
   pub ending : Ending
   pub steps : ℕ
@@ -136,18 +134,18 @@ finished e steps = record { outcome = record { ending = e; steps = steps }; met 
 unfoldable pub meets : List Send → Run → Run
 meets sends r = record { outcome = r .outcome; met = sends ++ r .met }
 
-unfoldable pub afterTurn : Turn → ℕ → (Landing → Run) → Run
+unfoldable pub afterTurn : Turn → ℕ → (Resumption → Run) → Run
 afterTurn (made l) steps continue = continue l
 afterTurn (failed e) steps continue = finished e steps
 
--- "Before each instruction: steps equal to the count means Spent." `left` is what is left of the count.
-unfoldable pub runFrom : Model → ℕ → ℕ → Landing → Run
+-- The run from an instruction on: Spent before it where nothing is left of the count (M 8.5). `left` is what is left.
+unfoldable pub runFrom : Model → ℕ → ℕ → Resumption → Run
 runFrom M zero steps (ends e) = finished e steps
 runFrom M zero steps (goes i g callers) = finished spent steps
 runFrom M (suc left) steps (ends e) = finished e steps
 runFrom M (suc left) steps (goes i g callers) =
     meets (sent M i g) (afterTurn (turn M i g callers) steps (λ l. runFrom M left (suc steps) l))
 
--- "The opening lookup is no step; 10, 11, 12 end it with 0 steps."
+-- the run of a send: what the opening send finds is no step (M 8.5)
 unfoldable pub run : Model → ℕ → List ℕ → ℕ → Run
 run M f args count = meets (meeting M f args ∷ []) (afterTurn (call M f args []) 0 (λ l. runFrom M count 0 l))

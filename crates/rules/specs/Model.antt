@@ -2,14 +2,14 @@
 -- Assumes nothing.
 use Prim.Native.Nat.{ℕ, zero, suc, _<_, _≤_}
 use mathlib.Core.Path.{_≡_}
-use mathlib.Core.Bool.{Bool, true, false}
+use mathlib.Core.Bool.{Bool, true}
 use mathlib.Core.List.{List, [], _∷_}
 use lib.Dec.{ltb, eqb}
 use lib.ListN.{length, take}
-use Rattle.rules.specs.Bounded.{every, matching}
+use Rattle.rules.specs.Bounded.{every}
 use Rattle.rules.specs.Layout.{classCount, functionCount, signatureCount, methodCount, kindOf, parentsOf, arityOf, sigFunctionOf, sigTupleOf, sigResultOf, functionOf, specialiserTupleOf, declaredTupleOf, resultOf, codeOf, maxClasses, maxFunctions, maxSignatures, maxMethods, places}
 
--- "0 is ARG (operand an argument place, counted from 0), 1 is NEW (a class), 2 is SEND (a function)."
+-- the three instructions, with an argument place, a class and a function (M 2.8)
 pub data Instr : Type 0 where
   arg : ℕ → Instr
   new : ℕ → Instr

@@ -1,4 +1,4 @@
--- "Ancestry": when a class is under a class (reflexive, transitive subclassing), in the paper's words and as a test.
+-- Ancestry (M 4): when a class is under a class, as a relation and as a test.
 -- Assumes nothing.
 use Prim.Native.Nat.{ℕ, zero, suc}
 use mathlib.Core.Bool.{Bool, _||_}
@@ -7,7 +7,7 @@ use lib.Dec.{eqb}
 use Rattle.rules.specs.Bounded.{any, matching}
 use Rattle.rules.specs.Model.{Model}
 
--- "Class a is under class b when a is b, or a parent of a is under b"
+-- a class is under itself, and under what one of its parents is under (M 4.1)
 pub data Under (M : Model) : ℕ → ℕ → Type 0 where
   itself : {a : ℕ} → Under M a a
   parent : {a p b : ℕ} → List·Memᴰ p (M .parents a) → Under M p b → Under M a b

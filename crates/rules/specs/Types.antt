@@ -1,15 +1,15 @@
--- "Signatures and bodies": static types, the type of a send, the body check.
+-- Static types, the type of a send, the check of a body (M 7).
 -- Assumes nothing.
 use Prim.Native.Nat.{ℕ, suc}
-use mathlib.Core.Bool.{Bool, true, false, cond, _&&_}
+use mathlib.Core.Bool.{Bool, cond, _&&_}
 use mathlib.Core.List.{List, [], _∷_, map, reverse}
 use lib.Dec.{eqb, leb}
 use lib.ListN.{length, getD, take, drop}
-use Rattle.rules.specs.Bounded.{upto, any, every, keep, matching}
+use Rattle.rules.specs.Bounded.{upto, any, keep, matching}
 use Rattle.rules.specs.Model.{Model, Instr, arg, new, send}
 use Rattle.rules.specs.Subclass.{subclass}
 
--- "A static type is a set of classes. The type of a class is every class it is under." A type is given by classes whose types it joins.
+-- A static type is given by classes whose types it joins; the type of a class has every class above it, and itself (M 7.1).
 abbrev pub Static : Type 0
 Static = List ℕ
 
@@ -17,22 +17,22 @@ Static = List ℕ
 unfoldable pub inType : Model → Static → ℕ → Bool
 inType M t b = any (λ g. subclass M g b) t
 
--- "A signature licenses it when each of its argument classes is in the type at that place"
+-- the signature licenses arguments of these types: each of its classes is in the type of its place (M 7.2)
 unfoldable pub licenses : Model → List Static → ℕ → Bool
 licenses M types s = matching (inType M) types (M .sigArgs s)
 
 unfoldable pub licensing : Model → ℕ → List Static → List ℕ
 licensing M f types = keep (λ s. eqb (M .sigFunction s) f && licenses M types s) (upto (M .signatures))
 
--- "The send's type is the union over all licensing signatures of their result classes' types"; without one it is empty, number 16.
+-- the type of a send joins those of the results of all licensing signatures; without one it is empty, number 16 (M 7.2)
 unfoldable pub sendType : Model → ℕ → List Static → Static
 sendType M f types = map (M .sigResult) (licensing M f types)
 
--- "ARG i has the classes of its specialiser's type and its declared class's type together."
+-- what is known of an argument: it is under the specialiser and under the declared class of its place (M 7.2)
 unfoldable pub argType : Model → ℕ → ℕ → Static
 argType M m i = getD (M .specialisers m) i 0 ∷ getD (M .declared m) i 0 ∷ []
 
--- The arguments of a send of n places from a stack whose top comes first: "last argument on top".
+-- The arguments of a send of n places from a stack whose top comes first: the last argument lies topmost.
 unfoldable pub arguments : {A : Type 0} → ℕ → List A → List A
 arguments n stack = reverse (take n stack)
 
@@ -50,7 +50,7 @@ unfoldable pub sendEffect : Static → List Static → Effect
 sendEffect [] below = breaksBy 16
 sendEffect (c ∷ cs) below = leaves ((c ∷ cs) ∷ below)
 
--- "NEW c has the type of c; c must be concrete (15). SEND takes as many types as the function has arguments (14 when there are fewer) … none is 16."
+-- what an instruction does to the stack of types, or the number by which the body breaks there (M 7.2)
 unfoldable pub effect : Model → ℕ → List Static → Instr → Effect
 effect M m stack (arg i) = leaves (argType M m i ∷ stack)
 effect M m stack (new c) = cond (M .concrete c) (leaves ((c ∷ []) ∷ stack)) (breaksBy 15)
@@ -59,7 +59,7 @@ effect M m stack (send f) =
     (sendEffect (sendType M f (arguments (M .arity f) stack)) (drop (M .arity f) stack))
     (breaksBy 14)
 
--- "At the end exactly one type is left (14) and contains the method's result class (17)."
+-- the end of a body: one type is left, and the result class is in it (M 7.2)
 unfoldable pub ending : Model → ℕ → ℕ → List Static → Typing
 ending M m at [] = breaks 14 at
 ending M m at (t ∷ []) = cond (inType M t (M .result m)) typed (breaks 17 at)
@@ -69,7 +69,7 @@ unfoldable pub afterEffect : Effect → ℕ → (List Static → Typing) → Typ
 afterEffect (leaves stack) at continue = continue stack
 afterEffect (breaksBy number) at continue = breaks number at
 
--- "its first broken instruction", the end counting as instruction number 'length in instructions'
+-- the first instruction that breaks; the end counts as one more (M 7.3)
 unfoldable pub typeFrom : Model → ℕ → ℕ → List Static → List Instr → Typing
 typeFrom M m at stack [] = ending M m at stack
 typeFrom M m at stack (i ∷ rest) = afterEffect (effect M m stack i) at (λ next. typeFrom M m (suc at) next rest)

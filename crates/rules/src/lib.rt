@@ -1,1 +1,1 @@
-// No code: specs/ holds the rules of document 01 as definitions, proofs/ their laws and the worked cases.
+// No code: specs/ holds the rules of docs/MANUAL.md as definitions, proofs/ their laws and the worked cases.

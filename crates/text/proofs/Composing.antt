@@ -13,16 +13,17 @@ use Rattle.rules.specs.Types.{Typing, typed, breaks, typeBody}
 use Rattle.rules.specs.Coverage.{Judgement, holds, fails, judge, brokenMethod, brokenSignature, coverageRefusal, bodyRefusal, bodyVerdict, coverageVerdict, verdictNaming, firstBroken}
 use Rattle.rules.specs.Calls.{scratchBytes, whenOpen, onOpening, withScratch, checkCallNaming}
 use Rattle.rules.proofs.Coverage.{broken-signature, first-names}
-use Rattle.layout.specs.Opening.{saidOf}
+use Rattle.bundle_rules.specs.Opening.{saidOf}
 use Rattle.layout.specs.declared.bundle.Bundle.{Bundle}
-use Rattle.layout.specs.declared.finding.LayoutFinding as layout-type
-use Rattle.layout.proofs.Opened.{wellformed-of, counts-of, opened-of}
-use Rattle.curiumtoad.specs.declared.witness.CoverageFinding as coverage-type
-use Rattle.curiumtoad.specs.declared.witness.CoverageFinding.the-variants as coverage
-use Rattle.curiumtoad.specs.declared.check.Finding.the-variants as finding
-use Rattle.curiumtoad.specs.declared.check.Verdict as verdict-type
-use Rattle.curiumtoad.specs.declared.check.Verdict.the-variants as verdict
-use Rattle.curiumtoad.specs.Said.{coverageSaid, verdictSaid}
+use Rattle.bundle_rules.specs.declared.finding.LayoutFinding as layout-type
+use Rattle.layout.proofs.Opened.{wellformed-of, counts-of}
+use Rattle.bundle_rules.proofs.Opened.{opened-of}
+use Rattle.calls.specs.declared.witness.CoverageFinding as coverage-type
+use Rattle.calls.specs.declared.witness.CoverageFinding.the-variants as coverage
+use Rattle.calls.specs.declared.check.Finding.the-variants as finding
+use Rattle.calls.specs.declared.check.Verdict as verdict-type
+use Rattle.calls.specs.declared.check.Verdict.the-variants as verdict
+use Rattle.calls.specs.Said.{coverageSaid, verdictSaid}
 use Rattle.curiumtoad.specs.Checked.{Checks}
 use Rattle.curiumtoad.proofs.Called.{layout-refuses}
 use Rattle.text.specs.declared.listing.ListingAnswer as listing-type

@@ -8,9 +8,9 @@ use lib.ListN.{take}
 use lib.Seq.{take-append-le}
 use Rattle.rules.specs.Model.{Model}
 use Rattle.rules.specs.Layout.{refuses}
-use Rattle.curiumtoad.specs.declared.send.Send as send-type
-use Rattle.curiumtoad.specs.declared.witness.CoverageFinding as coverage-type
-use Rattle.curiumtoad.specs.Said.{coverageSaid}
+use Rattle.dispatch.specs.declared.send.Send as send-type
+use Rattle.calls.specs.declared.witness.CoverageFinding as coverage-type
+use Rattle.calls.specs.Said.{coverageSaid}
 use Rattle.text.specs.Ascii.{ascii}
 use Rattle.text.specs.Text.{field, classes, methods, finding, refusedLine, verdictLine}
 use Rattle.text.specs.Appended.{Appended}
@@ -25,7 +25,7 @@ regrouped r s f c m end =
     ∙ ap (λ (x : List ℕ). x ++ m) (append-assoc r (s ++ f) c)
     ∙ append-assoc r (s ++ f ++ c) m)
 
--- the number, the signature, the function with its argument classes, the methods
+-- the line of 10 to 13: number, signature, send, methods
 pub coverage-text : (M : Model) (number s f a₀ a₁ a₂ n : ℕ) (ms : List ℕ) → M .arity f ≡ n → n ≤ 3
     → field "refused " number ++ field " signature " s ++ field " send " f ++ classes (take n (a₀ ∷ a₁ ∷ a₂ ∷ [])) ++ (methods ms ++ ascii "\n")
     ≡ refusedLine M number (s ∷ f ∷ a₀ ∷ a₁ ∷ a₂ ∷ ms)

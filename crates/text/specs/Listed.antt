@@ -6,17 +6,17 @@ use mathlib.Core.List.{List, _++_}
 use lib.ListN.{length, take, drop}
 use Rattle.rules.specs.Model.{Model, modelOf}
 use Rattle.rules.specs.Coverage.{NamesBroken}
-use Rattle.layout.specs.Opening.{saidOf, Opens}
+use Rattle.bundle_rules.specs.Opening.{saidOf, Opens}
 use Rattle.layout.specs.declared.bundle.Bundle.{Bundle}
-use Rattle.layout.specs.declared.finding.Opening.the-variants as answer
-use Rattle.layout.specs.declared.finding.LayoutFinding.{LayoutFinding}
-use Rattle.curiumtoad.specs.declared.witness.CoverageFinding as coverage-type
-use Rattle.curiumtoad.specs.declared.witness.CoverageFinding.the-variants as coverage
-use Rattle.curiumtoad.specs.declared.check.Finding as finding-type
-use Rattle.curiumtoad.specs.declared.check.Finding.the-variants as finding
-use Rattle.curiumtoad.specs.declared.check.Verdict as verdict-type
-use Rattle.curiumtoad.specs.declared.check.Verdict.the-variants as verdict
-use Rattle.curiumtoad.specs.Refusal.{numberOf, valuesOf}
+use Rattle.bundle_rules.specs.declared.finding.Opening.the-variants as answer
+use Rattle.bundle_rules.specs.declared.finding.LayoutFinding.{LayoutFinding}
+use Rattle.calls.specs.declared.witness.CoverageFinding as coverage-type
+use Rattle.calls.specs.declared.witness.CoverageFinding.the-variants as coverage
+use Rattle.calls.specs.declared.check.Finding as finding-type
+use Rattle.calls.specs.declared.check.Finding.the-variants as finding
+use Rattle.calls.specs.declared.check.Verdict as verdict-type
+use Rattle.calls.specs.declared.check.Verdict.the-variants as verdict
+use Rattle.calls.specs.Answers.{numberOf, valuesOf}
 use Rattle.text.specs.declared.listing.ListingAnswer as listing-type
 use Rattle.text.specs.declared.listing.ListingAnswer.the-variants as listing
 use Rattle.text.specs.Text.{refusedLine, listingNaming}

@@ -1,4 +1,4 @@
--- "The program reads a bundle from standard input": the text that it prints, for every bundle.
+-- The listing (M 12.1): the text that the program prints for the bundle on its standard input, whatever it is.
 -- Assumes nothing.
 use Prim.Native.Nat.{ℕ, zero, suc, _+_, _/_, _%_}
 use Prim.Native.String.{String}
@@ -24,7 +24,7 @@ decimal n = digits 20 n
 unfoldable pub field : String → ℕ → List ℕ
 field word n = ascii word ++ decimal n
 
--- "The first line counts records."
+-- the line of the counts
 unfoldable pub countsLine : List ℕ → List ℕ
 countsLine counts =
     field "classes " (getD counts 0 0)
@@ -33,19 +33,19 @@ countsLine counts =
     ++ field " methods " (getD counts 3 0)
     ++ ascii "\n"
 
--- "the function with its argument classes": each class behind a blank
+-- the classes of a send, each behind a blank
 unfoldable pub classes : List ℕ → List ℕ
 classes [] = []
 classes (c ∷ cs) = field " " c ++ classes cs
 
--- "the methods (10 ends after the send; 12 and 13 end as in `method 2`)"
+-- what is printed behind a send: nothing for 10, the two rivals for 11, the one method for 12 and 13
 unfoldable pub methods : List ℕ → List ℕ
 methods [] = []
 methods (m ∷ []) = field " method " m
 methods (m ∷ n ∷ ns) = field " methods " m ++ field " " n
 
--- The values that come with a number. None: 1 to 3. One: "4 to 9 read `refused 4 record 2`". Two: "Bodies read `refused 14 method 2 at 3`". More: 10 to 13,
--- "the signature, the function with its argument classes, the methods"; a tuple has a value for each of the layout's places, and as many are printed as
+-- The values that come with a number. None: 1 to 3. One, the record: 4 to 9. Two, method and instruction: 14 to 17. More: 10 to 13,
+-- signature, send and methods; a tuple has a value for each of the layout's places, and as many are printed as
 -- the function has arguments.
 unfoldable pub finding : Model → List ℕ → List ℕ
 finding M [] = []
@@ -57,7 +57,7 @@ finding M (s ∷ f ∷ a ∷ rest) =
     ++ classes (take (M .arity f) (a ∷ rest))
     ++ methods (drop places (a ∷ rest))
 
--- "The second is the number" and what comes with it; "an accepted bundle reads `accepted`"
+-- the line of the verdict: accepted, or the number and what comes with it
 unfoldable pub refusedLine : Model → ℕ → List ℕ → List ℕ
 refusedLine M number values = field "refused " number ++ finding M values ++ ascii "\n"
 
@@ -65,7 +65,7 @@ unfoldable pub verdictLine : Model → Answer (Unit {0}) → List ℕ
 verdictLine M (gives accepted) = ascii "accepted\n"
 verdictLine M (refuses number values) = refusedLine M number values
 
--- "For 1 to 9 the first line is missing"
+-- a bundle that does not open has no counts to print
 unfoldable pub listingOn : Answer (List ℕ) → Model → List ℕ → List ℕ
 listingOn (gives counts) M args = countsLine counts ++ verdictLine M (verdictNaming M args)
 listingOn (refuses number values) M args = refusedLine M number values

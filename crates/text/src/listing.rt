@@ -2,12 +2,13 @@
 use crate::line::counts_line;
 use crate::line::layout_line;
 use crate::line::verdict_line;
+use bundle_rules::finding::Opening;
+use bundle_rules::finding::finding_of;
 use bytes::copy;
 use curiumtoad::check::check;
 use curiumtoad::opening::open;
 use dispatch::matrix::BYTES;
 use layout::bundle::Bundle;
-use layout::finding::Opening;
 ghost use mathlib.Core.Path.{_≡_};
 ghost use Prim.Native.Nat.{_≤_};
 ghost use lib.ListN.{length};
@@ -52,10 +53,11 @@ fn compose(bundle: &[u8], text: &mut [u8]) -> usize
     ensures { λ r. ⌜ Composed (now (bundle .entry)) (now (text .exit)) r ⌝ }
     ensures { λ _. ⌜ length (now (text .exit)) ≡ length (now (text .entry)) ⌝ }
 {
-    match open(bundle) {
-        Opening::Opened(b) => compose_opened(bundle, b, text),
-        Opening::Refused(found) => layout_line(text, 0, found),
-    }
+    let opening = open(bundle);
+    let Opening::Opened(b) = opening else {
+        return layout_line(text, 0, finding_of(opening));
+    };
+    compose_opened(bundle, b, text)
 }
 
 // Writes the listing of a bundle to the start of the buffer. 512 bytes are enough for any.

@@ -121,7 +121,7 @@ module _ (M : Model) (m : ℕ) (rows : List ℕ) (h : ℕ) where
               (stack-push M rows (h - n) (drop n stack) t (stack-below M rows h n stack s l) (omega arith)));
         }
 
--- "At the end exactly one type is left (14) and contains the method's result class (17)."
+-- the end of a body (M 7.2): one type on the stack, with the result class in it
 module _ (M : Model) (m at : ℕ) (rows : List ℕ) where
   pub ended-other : (h : ℕ) → (h ≡ 1 → ⊥) → Ended M m at rows h (Breaks 14 at)
   unfolding typingOf ending

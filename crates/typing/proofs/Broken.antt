@@ -1,11 +1,10 @@
 -- The search for the lowest broken method, as its loop finds it.
 -- Assumes nothing.
 use Prim.Native.Nat.{ℕ, _<_}
-use mathlib.Core.Path.{_≡_, refl, sym, ap, _∙_}
-use mathlib.Core.Bool.{Bool, true, false}
-use mathlib.Core.List.{List, [], _∷_}
-use mathlib.Core.Option.{Option, none, some}
-use Rattle.rules.specs.Layout.{Answer, gives, refuses}
+use mathlib.Core.Path.{_≡_, ap}
+use mathlib.Core.List.{[], _∷_}
+use mathlib.Core.Option.{some}
+use Rattle.rules.specs.Layout.{gives, refuses}
 use Rattle.rules.specs.Model.{Model}
 use Rattle.rules.specs.Types.{typed, breaks, typeBody}
 use Rattle.rules.specs.Coverage.{breaking, brokenMethod, bodyRefusal, bodyVerdict}

@@ -4,29 +4,18 @@ use Prim.Native.Nat.{ℕ, _+_, _*_, _≤_, _<_}
 use native.Mathlib.Numerals.{add-one}
 use native.Mathlib.Omega.{arith}
 use mathlib.Core.Path.{_≡_, _∙_}
-use mathlib.Core.Bool.{true}
 use mathlib.Core.List.{List, [], _∷_, _++_}
-use lib.Dec.{ltb}
 use lib.ListN.{length, getD, take, length-map}
-use lib.Seq.{length-take-le, take-suc, getD-take}
-use borrow.Author.Tests.{ltb-true}
-use Rattle.rules.specs.Model.{Model, present}
+use lib.Seq.{length-take-le, take-suc}
+use Rattle.rules.specs.Model.{Model}
 use Rattle.rules.specs.Calls.{rowBytes}
-use Rattle.rules.proofs.Lists.{every-place}
+use Rattle.rules.proofs.Overwrite.{map-snoc}
 use Rattle.typing.specs.Rows.{Rows, classTypes}
-use Rattle.typing.proofs.Writing.{map-snoc}
 use Rattle.typing.proofs.Rows.{stacked, rows-none, rows-push}
 
--- a class at a place below n is present where the first n are
-pub present-at : (M : Model) (n : ℕ) (args : List ℕ) → present M (take n args) ≡ true → n ≤ length args → (i : ℕ) → i < n → getD args i 0 < M .classes
-unfolding present
-present-at M n args e l i h =
-    let each = every-place (λ c. ltb c (M .classes)) (take n args) 0 e i (omega (arith, length-take-le n args l)) in
-    rw (getD-take n args i 0 h) at (ltb-true (getD (take n args) i 0) (M .classes) each)
-
-pub class-types-length : (n : ℕ) (args : List ℕ) → n ≤ length args → length (classTypes (take n args)) ≡ n
+pub class-types-length : (args : List ℕ) → length (classTypes args) ≡ length args
 unfolding classTypes
-class-types-length n args h = length-map (take n args) (λ c. c ∷ []) ∙ length-take-le n args h
+class-types-length args = length-map args (λ c. c ∷ [])
 
 class-types-more : (i : ℕ) (args : List ℕ) → i < length args
     → classTypes (take (i + 1) args) ≡ classTypes (take i args) ++ ((getD args i 0 ∷ []) ∷ [])
@@ -41,6 +30,6 @@ module _ (M : Model) (args : List ℕ) where
   pub class-rows-more : (rows : List ℕ) (i : ℕ) → i < length args → rowBytes * i + rowBytes ≤ length rows → Rows M rows (classTypes (take i args))
       → Rows M (stacked M (getD args i 0 ∷ []) i rows) (classTypes (take (i + 1) args))
   class-rows-more rows i h l r =
-      let size = class-types-length i args (omega arith) in
+      let size = class-types-length (take i args) ∙ length-take-le i args (omega arith) in
       rw (class-types-more i args h)
       (rw size at (rows-push M rows (classTypes (take i args)) (getD args i 0 ∷ []) r (omega arith)))

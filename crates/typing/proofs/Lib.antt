@@ -5,7 +5,3 @@ pub mod Sends
 pub mod Bodies
 pub mod Operands
 pub mod Broken
-pub mod Judging
-pub mod Standing
-pub mod Narrowing
-pub mod Searching

@@ -14,18 +14,13 @@ use Rattle.rules.specs.Bounded.{any}
 use Rattle.rules.specs.Model.{Model, modelOf}
 use Rattle.rules.specs.Subclass.{subclass}
 use Rattle.rules.specs.Types.{Static, inType}
-use Rattle.rules.specs.Calls.{scratchBytes, rowBytes, overwrite, bit}
+use Rattle.rules.specs.Calls.{rowBytes, overwrite, bit}
 use Rattle.rules.proofs.Subclass.{subclass-not-above}
-use Rattle.rules.proofs.Overwrite.{overwrite-length, overwrite-at}
+use Rattle.rules.proofs.Overwrite.{overwrite-length, overwrite-at, overwrite-agree, overwrite-twice}
 use Rattle.layout.specs.Opened.{Opened}
 use Rattle.layout.specs.declared.bundle.Bundle.{Bundle}
 use Rattle.layout.proofs.Opened.{wellformed-of, counts-of}
-use Rattle.dispatch.specs.Matrix.{Filled, filled}
 use Rattle.typing.specs.Rows.{typeByte, noByte, sameByte, joined, joinedByte, Rows}
-use Rattle.typing.proofs.Writing.{overwrite-agree, overwrite-twice}
-
-pub filled-long : {M : Model} {s : List ℕ} → Filled M s → scratchBytes ≤ length s
-filled-long (filled f) = f .long
 
 pub joined-hit : (M : Model) (c k old : ℕ) → subclass M c k ≡ true → 1 ≡ joined M c k old
 unfolding joined

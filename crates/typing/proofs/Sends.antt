@@ -16,7 +16,7 @@ use Rattle.rules.specs.Calls.{rowBytes, overwrite, bit, licensed, rowOn}
 use Rattle.rules.proofs.Lists.{keep-upto-hit, keep-upto-miss, matching-at, matching-from}
 use Rattle.typing.specs.Rows.{typeByte, noByte, copiedIf, joinedByte, Rows}
 use Rattle.typing.specs.Sends.{licensesFor, inhabited, Licensed, Sent}
-use Rattle.typing.proofs.Writing.{map-snoc, overwrite-twice}
+use Rattle.rules.proofs.Overwrite.{map-snoc, overwrite-twice}
 use Rattle.typing.proofs.Rows.{row-empty, row-joined, row-copied}
 
 -- a bit as it is asked

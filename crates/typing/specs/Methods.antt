@@ -1,4 +1,4 @@
--- The check of all bodies, in document 01's numbers.
+-- The check of all bodies, in the numbers of the rules.
 -- Assumes nothing.
 use mathlib.Core.List.{[], _∷_}
 use Rattle.rules.specs.Layout.{Answer, gives, refuses}

@@ -1,10 +1,10 @@
 // The check of a body: its instructions one after the other, over a stack of types in rows, the lowest type in row 0.
+use crate::row::ROW_BYTES;
 use crate::row::class_row;
 use crate::row::copy;
 use crate::row::join;
 use crate::row::one_row;
 use crate::send::send_row;
-use dispatch::matrix::ROW;
 use layout::bundle::Bundle;
 use layout::field::arity;
 use layout::field::declared;
@@ -24,7 +24,7 @@ ghost use Rattle.rules.specs.Types.{argType, typeBody};
 ghost use Rattle.rules.specs.Calls.{rowBytes, overwrite};
 ghost use Rattle.layout.specs.Instruction.{instr};
 ghost use Rattle.layout.specs.Opened.{Opened};
-ghost use Rattle.dispatch.specs.Matrix.{Filled};
+ghost use Rattle.dispatch.specs.Prepared.{Prepared};
 ghost use Rattle.typing.specs.Rows.{typeByte};
 ghost use Rattle.typing.specs.Bodies.{typingOf, Applied, AppliedSend, Ended};
 
@@ -42,8 +42,7 @@ enum Effect {
 
 // Makes the row that of argument `place` of method m: its specialiser's type and its declared class's together.
 fn arg_row(bytes: &[u8], b: Bundle, scratch: &[u8], m: usize, place: usize, row: &mut [u8])
-    requires { ⌜ Opened (now bytes) b ⌝ }
-    requires { ⌜ Filled (modelOf (now bytes)) (now scratch) ⌝ }
+    requires { ⌜ Prepared (now bytes) b (now scratch) ⌝ }
     requires { ⌜ m < b .methods ⌝ }
     requires { ⌜ place < places ⌝ }
     requires { ⌜ rowBytes ≤ length (now row) ⌝ }
@@ -62,8 +61,7 @@ fn apply_send(
     rows: &mut [u8],
     h: usize,
 ) -> Effect
-    requires { ⌜ Opened (now bytes) b ⌝ }
-    requires { ⌜ Filled (modelOf (now bytes)) (now scratch) ⌝ }
+    requires { ⌜ Prepared (now bytes) b (now scratch) ⌝ }
     requires { ⌜ f < b .functions ⌝ }
     requires { ⌜ rowBytes * h + rowBytes ≤ length (now rows) ⌝ }
     ensures { λ r. ⌜ AppliedSend (modelOf (now (bytes .entry))) f (now (rows .entry)) h (now (rows .exit)) r ⌝ }
@@ -73,7 +71,7 @@ fn apply_send(
         return Effect::BreaksBy(14);
     }
     let below = h - n;
-    let at = ROW * below;
+    let at = ROW_BYTES * below;
     let left = below + 1;
     let mut sent = one_row();
     if send_row(bytes, b, scratch, &rows[at..], f, &mut sent) {
@@ -93,14 +91,13 @@ fn apply(
     rows: &mut [u8],
     h: usize,
 ) -> Effect
-    requires { ⌜ Opened (now bytes) b ⌝ }
-    requires { ⌜ Filled (modelOf (now bytes)) (now scratch) ⌝ }
+    requires { ⌜ Prepared (now bytes) b (now scratch) ⌝ }
     requires { ⌜ m < b .methods ⌝ }
     requires { ⌜ (let M = modelOf (now bytes) in operandRule M (M .arity (M .function m)) (instr i) ≡ true) ⌝ }
     requires { ⌜ rowBytes * h + rowBytes ≤ length (now rows) ⌝ }
     ensures { λ r. ⌜ Applied (modelOf (now (bytes .entry))) m (instr i) (now (rows .entry)) h (now (rows .exit)) r ⌝ }
 {
-    let at = ROW * h;
+    let at = ROW_BYTES * h;
     let left = h + 1;
     match i {
         Instruction::Arg(place) => {
@@ -145,9 +142,8 @@ fn body_rows() -> [u8; 8192]
 }
 
 // The check of method m's body, by a pass over its instructions.
-pub fn type_body(bytes: &[u8], b: Bundle, scratch: &[u8], m: usize) -> Typing
-    requires { ⌜ Opened (now bytes) b ⌝ }
-    requires { ⌜ Filled (modelOf (now bytes)) (now scratch) ⌝ }
+pub(crate) fn type_body(bytes: &[u8], b: Bundle, scratch: &[u8], m: usize) -> Typing
+    requires { ⌜ Prepared (now bytes) b (now scratch) ⌝ }
     requires { ⌜ m < b .methods ⌝ }
     ensures { λ r. ⌜ typingOf r ≡ typeBody (modelOf (now (bytes .entry))) m ⌝ }
 {

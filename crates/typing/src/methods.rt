@@ -5,8 +5,7 @@ use layout::bundle::Bundle;
 ghost use mathlib.Core.Path.{_≡_};
 ghost use Rattle.rules.specs.Model.{modelOf};
 ghost use Rattle.rules.specs.Coverage.{bodyVerdict, brokenMethod};
-ghost use Rattle.layout.specs.Opened.{Opened};
-ghost use Rattle.dispatch.specs.Matrix.{Filled};
+ghost use Rattle.dispatch.specs.Prepared.{Prepared};
 ghost use Rattle.typing.specs.Methods.{bodiesSaid};
 
 // Every body types, or the lowest method whose body breaks: by a number, at an instruction.
@@ -17,8 +16,7 @@ pub enum Bodies {
 
 // The lowest broken method.
 pub fn type_bodies(bytes: &[u8], b: Bundle, scratch: &[u8]) -> Bodies
-    requires { ⌜ Opened (now bytes) b ⌝ }
-    requires { ⌜ Filled (modelOf (now bytes)) (now scratch) ⌝ }
+    requires { ⌜ Prepared (now bytes) b (now scratch) ⌝ }
     ensures { λ r. ⌜ bodiesSaid r ≡ bodyVerdict (modelOf (now (bytes .entry))) (brokenMethod (modelOf (now (bytes .entry)))) ⌝ }
 {
     let methods = b.methods;

@@ -1,39 +1,41 @@
 // A static type as a row: byte c of its first 128 is 1 when class c is in the type, and later bytes are left alone.
-use dispatch::matrix::ROW;
 use dispatch::matrix::under;
 use layout::bundle::Bundle;
+use layout::bytes::byte_at;
 ghost use mathlib.Core.Path.{_≡_};
 ghost use mathlib.Core.Bool.{true};
 ghost use mathlib.Core.List.{[], _∷_};
 ghost use Prim.Native.Nat.{_*_, _<_, _≤_};
-ghost use lib.ListN.{length, take};
+ghost use lib.ListN.{length};
 ghost use Rattle.rules.specs.Layout.{places};
 ghost use Rattle.rules.specs.Model.{modelOf, present};
 ghost use Rattle.rules.specs.Calls.{rowBytes, overwrite};
-ghost use Rattle.layout.specs.Opened.{Opened};
-ghost use Rattle.dispatch.specs.Matrix.{Filled};
+ghost use Rattle.dispatch.specs.Prepared.{Prepared};
 ghost use Rattle.typing.specs.Rows.{typeByte, noByte, sameByte, joined, joinedByte, Rows, classTypes};
 
+// The bytes of a row.
+pub const ROW_BYTES: usize = 128;
+
 // Makes the row that of the empty type.
-pub fn clear(row: &mut [u8])
+pub(crate) fn clear(row: &mut [u8])
     requires { ⌜ rowBytes ≤ length (now row) ⌝ }
     ensures { λ _. ⌜ now (row .exit) ≡ overwrite rowBytes noByte (now (row .entry)) ⌝ }
 {
     let mut k = 0;
-    while k < ROW {
+    while k < ROW_BYTES {
         row[k] = 0;
         k += 1;
     }
 }
 
 // Copies a row.
-pub fn copy(from: &[u8], row: &mut [u8])
+pub(crate) fn copy(from: &[u8], row: &mut [u8])
     requires { ⌜ rowBytes ≤ length (now from) ⌝ }
     requires { ⌜ rowBytes ≤ length (now row) ⌝ }
     ensures { λ _. ⌜ now (row .exit) ≡ overwrite rowBytes (sameByte (now (from .entry))) (now (row .entry)) ⌝ }
 {
     let mut k = 0;
-    while k < ROW {
+    while k < ROW_BYTES {
         row[k] = from[k];
         k += 1;
     }
@@ -41,8 +43,7 @@ pub fn copy(from: &[u8], row: &mut [u8])
 
 // What the byte of class k becomes when class c's type is joined: a present class is under present ones only.
 fn join_byte(bytes: &[u8], b: Bundle, scratch: &[u8], c: usize, k: usize, old: u8) -> u8
-    requires { ⌜ Opened (now bytes) b ⌝ }
-    requires { ⌜ Filled (modelOf (now bytes)) (now scratch) ⌝ }
+    requires { ⌜ Prepared (now bytes) b (now scratch) ⌝ }
     requires { ⌜ c < b .classes ⌝ }
     ensures { λ r. ⌜ r ≡ joined (modelOf (now (bytes .entry))) c k old ⌝ }
 {
@@ -56,15 +57,14 @@ fn join_byte(bytes: &[u8], b: Bundle, scratch: &[u8], c: usize, k: usize, old: u
 }
 
 // Joins class c's type to that of the row.
-pub fn join(bytes: &[u8], b: Bundle, scratch: &[u8], c: usize, row: &mut [u8])
-    requires { ⌜ Opened (now bytes) b ⌝ }
-    requires { ⌜ Filled (modelOf (now bytes)) (now scratch) ⌝ }
+pub(crate) fn join(bytes: &[u8], b: Bundle, scratch: &[u8], c: usize, row: &mut [u8])
+    requires { ⌜ Prepared (now bytes) b (now scratch) ⌝ }
     requires { ⌜ c < b .classes ⌝ }
     requires { ⌜ rowBytes ≤ length (now row) ⌝ }
     ensures { λ _. ⌜ now (row .exit) ≡ overwrite rowBytes (joinedByte (modelOf (now (bytes .entry))) c (now (row .entry))) (now (row .entry)) ⌝ }
 {
     let mut k = 0;
-    while k < ROW {
+    while k < ROW_BYTES {
         let v = join_byte(bytes, b, scratch, c, k, row[k]);
         row[k] = v;
         k += 1;
@@ -72,9 +72,8 @@ pub fn join(bytes: &[u8], b: Bundle, scratch: &[u8], c: usize, row: &mut [u8])
 }
 
 // Makes the row that of class c's type.
-pub fn class_row(bytes: &[u8], b: Bundle, scratch: &[u8], c: usize, row: &mut [u8])
-    requires { ⌜ Opened (now bytes) b ⌝ }
-    requires { ⌜ Filled (modelOf (now bytes)) (now scratch) ⌝ }
+pub(crate) fn class_row(bytes: &[u8], b: Bundle, scratch: &[u8], c: usize, row: &mut [u8])
+    requires { ⌜ Prepared (now bytes) b (now scratch) ⌝ }
     requires { ⌜ c < b .classes ⌝ }
     requires { ⌜ rowBytes ≤ length (now row) ⌝ }
     ensures { λ _. ⌜ now (row .exit) ≡ overwrite rowBytes (typeByte (modelOf (now (bytes .entry))) (c ∷ [])) (now (row .entry)) ⌝ }
@@ -83,39 +82,30 @@ pub fn class_row(bytes: &[u8], b: Bundle, scratch: &[u8], c: usize, row: &mut [u
     join(bytes, b, scratch, c, row);
 }
 
-// Writes the rows of the types of the first n classes.
-pub fn class_rows(
-    bytes: &[u8],
-    b: Bundle,
-    scratch: &[u8],
-    n: usize,
-    args: &[usize],
-    rows: &mut [u8],
-)
-    requires { ⌜ Opened (now bytes) b ⌝ }
-    requires { ⌜ Filled (modelOf (now bytes)) (now scratch) ⌝ }
-    requires { ⌜ n ≤ length (now args) ⌝ }
-    requires { ⌜ present (modelOf (now bytes)) (take n (now args)) ≡ true ⌝ }
-    requires { ⌜ rowBytes * n ≤ length (now rows) ⌝ }
-    ensures { λ _. ⌜ Rows (modelOf (now (bytes .entry))) (now (rows .exit)) (classTypes (take n (now (args .entry)))) ⌝ }
+// Writes the rows of the classes' types.
+pub(crate) fn class_rows(bytes: &[u8], b: Bundle, scratch: &[u8], args: &[u8], rows: &mut [u8])
+    requires { ⌜ Prepared (now bytes) b (now scratch) ⌝ }
+    requires { ⌜ present (modelOf (now bytes)) (now args) ≡ true ⌝ }
+    requires { ⌜ rowBytes * length (now args) ≤ length (now rows) ⌝ }
+    ensures { λ _. ⌜ Rows (modelOf (now (bytes .entry))) (now (rows .exit)) (classTypes (now (args .entry))) ⌝ }
 {
     let mut i = 0;
-    while i < n {
-        let at = ROW * i;
-        class_row(bytes, b, scratch, args[i], &mut rows[at..]);
+    while i < args.len() {
+        let at = ROW_BYTES * i;
+        class_row(bytes, b, scratch, byte_at(args, i), &mut rows[at..]);
         i += 1;
     }
 }
 
 // A row of no type yet.
-pub fn one_row() -> [u8; 128]
+pub(crate) fn one_row() -> [u8; 128]
     ensures { λ r. ⌜ rowBytes ≡ length r ⌝ }
 {
     [0; 128]
 }
 
 // A row for each argument that a send may have.
-pub fn argument_rows() -> [u8; 384]
+pub(crate) fn argument_rows() -> [u8; 384]
     ensures { λ r. ⌜ rowBytes * places ≡ length r ⌝ }
 {
     [0; 384]

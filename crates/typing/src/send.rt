@@ -1,26 +1,26 @@
 // The type of a send whose arguments' types stand in rows, row i that of argument i.
+use crate::row::ROW_BYTES;
 use crate::row::argument_rows;
 use crate::row::class_rows;
 use crate::row::clear;
 use crate::row::copy;
 use crate::row::join;
 use crate::row::one_row;
-use dispatch::matrix::ROW;
 use layout::bundle::Bundle;
 use layout::field::arity;
 use layout::field::sig_arg;
 use layout::field::sig_function;
 use layout::field::sig_result;
 ghost use mathlib.Core.Path.{_≡_};
-ghost use mathlib.Core.Bool.{true};
 ghost use Prim.Native.Nat.{_*_, _<_, _≤_};
-ghost use lib.ListN.{length, take};
+ghost use lib.ListN.{length};
 ghost use Rattle.rules.specs.Layout.{places};
-ghost use Rattle.rules.specs.Model.{modelOf, present};
+ghost use Rattle.rules.specs.Model.{modelOf};
 ghost use Rattle.rules.specs.Types.{sendType};
 ghost use Rattle.rules.specs.Calls.{rowBytes, licensed, rowOn};
 ghost use Rattle.layout.specs.Opened.{Opened};
-ghost use Rattle.dispatch.specs.Matrix.{Filled};
+ghost use Rattle.dispatch.specs.Prepared.{Prepared};
+ghost use Rattle.dispatch.specs.Places.{Arguments};
 ghost use Rattle.typing.specs.Rows.{copiedIf, classTypes};
 ghost use Rattle.typing.specs.Sends.{inhabited, Licensed, Sent};
 
@@ -39,7 +39,7 @@ fn licenses(bytes: &[u8], b: Bundle, rows: &[u8], f: usize, n: usize, s: usize) 
     let mut i = 0;
     while i < n {
         let c = sig_arg(bytes, b, s, i);
-        if rows[ROW * i + c] == 0 {
+        if rows[ROW_BYTES * i + c] == 0 {
             return false;
         }
         i += 1;
@@ -48,7 +48,7 @@ fn licenses(bytes: &[u8], b: Bundle, rows: &[u8], f: usize, n: usize, s: usize) 
 }
 
 // Writes the send's row, the union over all signatures that license it, and says whether there is one.
-pub fn send_row(
+pub(crate) fn send_row(
     bytes: &[u8],
     b: Bundle,
     scratch: &[u8],
@@ -56,8 +56,7 @@ pub fn send_row(
     f: usize,
     row: &mut [u8],
 ) -> bool
-    requires { ⌜ Opened (now bytes) b ⌝ }
-    requires { ⌜ Filled (modelOf (now bytes)) (now scratch) ⌝ }
+    requires { ⌜ Prepared (now bytes) b (now scratch) ⌝ }
     requires { ⌜ f < b .functions ⌝ }
     requires { ⌜ rowBytes * modelOf (now bytes) .arity f ≤ length (now rows) ⌝ }
     requires { ⌜ rowBytes ≤ length (now row) ⌝ }
@@ -97,21 +96,17 @@ pub fn send_type(
     b: Bundle,
     scratch: &[u8],
     f: usize,
-    args: &[usize],
+    args: &[u8],
     row: &mut [u8],
 ) -> bool
-    requires { ⌜ Opened (now bytes) b ⌝ }
-    requires { ⌜ Filled (modelOf (now bytes)) (now scratch) ⌝ }
-    requires { ⌜ f < b .functions ⌝ }
-    requires { ⌜ modelOf (now bytes) .arity f ≤ length (now args) ⌝ }
-    requires { ⌜ present (modelOf (now bytes)) (take (modelOf (now bytes) .arity f) (now args)) ≡ true ⌝ }
+    requires { ⌜ Prepared (now bytes) b (now scratch) ⌝ }
+    requires { ⌜ Arguments (modelOf (now bytes)) f (now args) ⌝ }
     requires { ⌜ rowBytes ≤ length (now row) ⌝ }
-    ensures { λ r. ⌜ (let M = modelOf (now (bytes .entry)) in r ≡ inhabited (sendType M f (classTypes (take (M .arity f) (now (args .entry)))))) ⌝ }
-    ensures { λ r. ⌜ (let M = modelOf (now (bytes .entry)) in now (row .exit) ≡ rowOn (licensed (sendType M f (classTypes (take (M .arity f) (now (args .entry)))))) M (now (row .entry))) ⌝ }
+    ensures { λ r. ⌜ r ≡ inhabited (sendType (modelOf (now (bytes .entry))) f (classTypes (now (args .entry)))) ⌝ }
+    ensures { λ r. ⌜ (let M = modelOf (now (bytes .entry)) in now (row .exit) ≡ rowOn (licensed (sendType M f (classTypes (now (args .entry))))) M (now (row .entry))) ⌝ }
 {
-    let n = arity(bytes, b, f);
     let mut rows = argument_rows();
-    class_rows(bytes, b, scratch, n, args, &mut rows);
+    class_rows(bytes, b, scratch, args, &mut rows);
     let mut sent = one_row();
     let found = send_row(bytes, b, scratch, &rows, f, &mut sent);
     copy_if(found, &sent, row);

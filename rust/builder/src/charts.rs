@@ -1,4 +1,4 @@
-//! The chart bundles of document 01.
+//! The chart bundles: the samples that the worked cases go by.
 
 use crate::{Parts, NEW, SEND};
 

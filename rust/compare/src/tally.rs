@@ -2,7 +2,7 @@
 
 use std::fmt;
 
-/// The numbers of document 01, and 0 for an answer.
+/// The numbers of refusals, and 0 for an answer.
 pub const NUMBERS: usize = 21;
 
 /// Counts of bundles, calls and numbers, and of differences.

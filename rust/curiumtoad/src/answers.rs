@@ -1,10 +1,10 @@
-//! The answers, and for each case document 01's number and values.
+//! The answers, and for each case its number and values (docs/MANUAL.md, part 11).
 
 use std::error::Error;
 use std::fmt;
 use std::ops::Range;
 
-/// What crosses back from the library: document 01's number, 0 where the call answers, and eight values. Values that
+/// What crosses back from the library: the number of the answer, 0 where nothing is refused, and eight values. Values that
 /// mean nothing are 0.
 #[derive(Clone, Copy, Debug, PartialEq, Eq)]
 pub struct Reply {
@@ -37,7 +37,7 @@ pub trait Answer: Sized {
     /// On a number that the call never gives.
     fn of(reply: Reply) -> Self;
 
-    /// Document 01's number and values for this answer.
+    /// The number and the values of this answer.
     fn reply(&self) -> Reply;
 }
 

@@ -49,7 +49,7 @@ pub fn open(bundle: &[u8]) -> Result<Counts, Refusal> {
     Answer::of(raw::reply(|values| raw::open(bundle, values)))
 }
 
-/// Whether class `a` is under class `b`: whether `a` is `b`, or a parent of `a` is under `b`.
+/// Whether class `a` is under class `b`: the same class, or one that inherits from it.
 ///
 /// ```
 /// use curiumtoad::{ancestry, Refusal, SCRATCH};
@@ -66,7 +66,7 @@ pub fn ancestry(bundle: &[u8], scratch: &mut [u8], a: u32, b: u32) -> Result<boo
     Answer::of(raw::reply(|values| raw::ancestry(bundle, scratch, a, b, values)))
 }
 
-/// The method that a send finds: the applicable method that is at least as specific as every other applicable one.
+/// The method that a send finds: of those that apply, the one that is at least as specific as all the rest.
 /// Abstract classes are looked up too.
 ///
 /// ```

@@ -1,6 +1,6 @@
 //! The calls as numbers: what crosses to the library and back, and nothing more.
 //!
-//! Each function gives document 01's number, 0 where the call answers, and writes all eight values; [`crate::Reply`] says
+//! Each function gives the number of its answer, 0 where nothing is refused, and writes all eight values; [`crate::Reply`] says
 //! what they are.
 //!
 //! Every function here is safe: the library's functions ask nothing of their callers, a slice crosses as the pointer and

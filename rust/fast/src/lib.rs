@@ -18,7 +18,7 @@ use layout::Tables;
 /// The least length of the scratch.
 pub const SCRATCH: usize = 128 * 128;
 
-/// What is broken: document 01's number and the values it names.
+/// What is broken: the number and the values named beside it.
 #[derive(Clone, Copy, Debug, PartialEq, Eq)]
 pub struct Broken {
     number: u8,

@@ -44,11 +44,11 @@ impl Matrix {
 pub enum Found {
     One(usize),
     None,
-    /// The two lowest-numbered applicable methods that no other applicable method is at least as specific as.
+    /// Of the methods that apply, and that none of the rest equals or beats in being specific, the two lowest.
     Rivals(usize, usize),
 }
 
-/// The applicable method that is at least as specific as every other applicable method.
+/// Of the methods that apply, the one that is at least as specific as all the rest.
 pub fn lookup(bundle: &Bundle, matrix: &Matrix, function: usize, tuple: Triple) -> Found {
     let places = bundle.functions[function];
     let applies = |m: &Method| m.function == function && matrix.all_under(places, tuple, m.specialisers);

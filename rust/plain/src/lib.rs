@@ -1,7 +1,7 @@
-//! Bundles, sends and bodies by document 01, written for reading and for nothing else.
+//! Bundles, sends and bodies by the rules, written for reading and for nothing else.
 //!
 //! This is an implementation of its own: it shares no code with the verified library, and serves to compare with it.
-//! Each call takes numbers, lends buffers, and gives a [`Reply`]: document 01's number, 0 where the call answers, and
+//! Each call takes numbers, lends buffers, and gives a [`Reply`]: the number of the answer, 0 where nothing is refused, and
 //! eight values, of which those that mean nothing are 0.
 
 mod bundle;
@@ -26,9 +26,9 @@ pub const ROW: usize = 128;
 /// What a call gives back.
 #[derive(Clone, Copy, Debug, PartialEq, Eq)]
 pub struct Reply {
-    /// Document 01's number, or 0 where the call answers.
+    /// The number, or 0 where nothing is refused.
     pub number: u8,
-    /// What the number or the answer names, in the order of document 01's table.
+    /// What the number or the answer names, in the order of the table of numbers (docs/MANUAL.md, part 11).
     pub values: [u32; 8],
 }
 

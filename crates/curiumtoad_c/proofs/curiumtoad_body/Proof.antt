@@ -8,12 +8,6 @@ use Rattle.curiumtoad_c.proofs.Within.{body-small}
 use Rattle.curiumtoad_c.proofs.curiumtoad_body.Statement.{statement}
 use Rattle.curiumtoad_c.proofs.curiumtoad_body.Tie as tie
 
-body-place-requires : tie.Need-body-place-requires
-body-place-requires c κs = search needs
-
-give-requires : tie.Need-give-requires
-give-requires c κs = search needs
-
 returns : tie.Need-returns
 returns c =
     let p = c .before in
@@ -23,4 +17,4 @@ returns c =
     handed (p .body-place .ensures) (c .give .ensures) (values-small (placed b m) (bodyViewCall b m) (body-small b m))
 
 pub curiumtoad-body-spec : {M : Type 1} → statement M
-curiumtoad-body-spec = tie.close (tie.spec body-place-requires give-requires returns)
+curiumtoad-body-spec = tie.close (tie.spec (λ c κs. search needs) (λ c κs. search needs) returns)

@@ -9,18 +9,6 @@ use Rattle.curiumtoad_c.proofs.Verdicts.{check-small}
 use Rattle.curiumtoad_c.proofs.curiumtoad_check.Statement.{statement}
 use Rattle.curiumtoad_c.proofs.curiumtoad_check.Tie as tie
 
-check-requires : tie.Need-check-requires
-check-requires c κs = search needs
-
-of-verdict-requires : tie.Need-of-verdict-requires
-of-verdict-requires c κs = search needs
-
-give-requires : tie.Need-give-requires
-give-requires c κs = search needs
-
-same-length : tie.Need-same-length
-same-length c = search needs
-
 returns : tie.Need-returns
 returns c =
     let f = c .before in
@@ -34,4 +22,4 @@ returns c =
 
 pub curiumtoad-check-spec : {M : Type 1} → statement M
 curiumtoad-check-spec =
-    tie.close (tie.spec check-requires of-verdict-requires give-requires same-length returns)
+    tie.close (tie.spec (λ c κs. search needs) (λ c κs. search needs) (λ c κs. search needs) (λ c. search needs) returns)

@@ -10,18 +10,6 @@ use Rattle.curiumtoad_c.proofs.Within.{lookup-small}
 use Rattle.curiumtoad_c.proofs.curiumtoad_lookup.Statement.{statement}
 use Rattle.curiumtoad_c.proofs.curiumtoad_lookup.Tie as tie
 
-lookup-requires : tie.Need-lookup-requires
-lookup-requires c κs = search needs
-
-of-lookup-requires : tie.Need-of-lookup-requires
-of-lookup-requires c κs = search needs
-
-give-requires : tie.Need-give-requires
-give-requires c κs = search needs
-
-same-length : tie.Need-same-length
-same-length c = search needs
-
 returns : tie.Need-returns
 returns c =
     let f = c .before in
@@ -35,4 +23,4 @@ returns c =
 
 pub curiumtoad-lookup-spec : {M : Type 1} → statement M
 curiumtoad-lookup-spec =
-    tie.close (tie.spec lookup-requires of-lookup-requires give-requires same-length returns)
+    tie.close (tie.spec (λ c κs. search needs) (λ c κs. search needs) (λ c κs. search needs) (λ c. search needs) returns)

@@ -8,15 +8,6 @@ use Rattle.curiumtoad_c.proofs.Within.{opening-call-small}
 use Rattle.curiumtoad_c.proofs.curiumtoad_open.Statement.{statement}
 use Rattle.curiumtoad_c.proofs.curiumtoad_open.Tie as tie
 
-open-requires : tie.Need-open-requires
-open-requires c κs = search needs
-
-of-opening-requires : tie.Need-of-opening-requires
-of-opening-requires c κs = search needs
-
-give-requires : tie.Need-give-requires
-give-requires c κs = search needs
-
 returns : tie.Need-returns
 returns c =
     let f = c .before in
@@ -25,4 +16,4 @@ returns c =
     exported exportedNumber counts (openingCall b) (e .«open» .ensures .0) (f .of-opening .ensures) (c .give .ensures) (opening-call-small b)
 
 pub curiumtoad-open-spec : {M : Type 1} → statement M
-curiumtoad-open-spec = tie.close (tie.spec open-requires of-opening-requires give-requires returns)
+curiumtoad-open-spec = tie.close (tie.spec (λ c κs. search needs) (λ c κs. search needs) (λ c κs. search needs) returns)

@@ -10,18 +10,6 @@ use Rattle.curiumtoad_c.proofs.Stepping.{run-small}
 use Rattle.curiumtoad_c.proofs.curiumtoad_run.Statement.{statement}
 use Rattle.curiumtoad_c.proofs.curiumtoad_run.Tie as tie
 
-run-requires : tie.Need-run-requires
-run-requires c κs = search needs
-
-of-run-requires : tie.Need-of-run-requires
-of-run-requires c κs = search needs
-
-give-requires : tie.Need-give-requires
-give-requires c κs = search needs
-
-same-length : tie.Need-same-length
-same-length c = search needs
-
 returns : tie.Need-returns
 returns c =
     let f = c .before in
@@ -35,4 +23,4 @@ returns c =
 
 pub curiumtoad-run-spec : {M : Type 1} → statement M
 curiumtoad-run-spec =
-    tie.close (tie.spec run-requires of-run-requires give-requires same-length returns)
+    tie.close (tie.spec (λ c κs. search needs) (λ c κs. search needs) (λ c κs. search needs) (λ c. search needs) returns)

@@ -8,18 +8,6 @@ use Rattle.curiumtoad_c.proofs.Accepting.{accepted-small}
 use Rattle.curiumtoad_c.proofs.curiumtoad_run_accepted.Statement.{statement}
 use Rattle.curiumtoad_c.proofs.curiumtoad_run_accepted.Tie as tie
 
-run-accepted-requires : tie.Need-run-accepted-requires
-run-accepted-requires c κs = search needs
-
-of-accepted-requires : tie.Need-of-accepted-requires
-of-accepted-requires c κs = search needs
-
-give-requires : tie.Need-give-requires
-give-requires c κs = search needs
-
-same-length : tie.Need-same-length
-same-length c = search needs
-
 returns : tie.Need-returns
 returns c =
     let f = c .before in
@@ -35,4 +23,4 @@ returns c =
 pub curiumtoad-run-accepted-spec : {M : Type 1} → statement M
 curiumtoad-run-accepted-spec =
     tie.close
-    (tie.spec run-accepted-requires of-accepted-requires give-requires same-length returns)
+    (tie.spec (λ c κs. search needs) (λ c κs. search needs) (λ c κs. search needs) (λ c. search needs) returns)

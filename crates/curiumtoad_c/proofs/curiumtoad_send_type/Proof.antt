@@ -8,21 +8,6 @@ use Rattle.curiumtoad_c.proofs.Within.{blank-exported, send-type-small}
 use Rattle.curiumtoad_c.proofs.curiumtoad_send_type.Statement.{statement}
 use Rattle.curiumtoad_c.proofs.curiumtoad_send_type.Tie as tie
 
-send-type-requires : tie.Need-send-type-requires
-send-type-requires c κs = search needs
-
-of-send-type-requires : tie.Need-of-send-type-requires
-of-send-type-requires c κs = search needs
-
-give-requires : tie.Need-give-requires
-give-requires c κs = search needs
-
-same-length : tie.Need-same-length
-same-length c = search needs
-
-same-length-2 : tie.Need-same-length-2
-same-length-2 c = search needs
-
 returns : tie.Need-returns
 returns c =
     let f = c .before in
@@ -37,9 +22,9 @@ pub curiumtoad-send-type-spec : {M : Type 1} → statement M
 curiumtoad-send-type-spec =
     tie.close
     (tie.spec
-    send-type-requires
-    of-send-type-requires
-    give-requires
-    same-length
-    same-length-2
+    (λ c κs. search needs)
+    (λ c κs. search needs)
+    (λ c κs. search needs)
+    (λ c. search needs)
+    (λ c. search needs)
     returns)

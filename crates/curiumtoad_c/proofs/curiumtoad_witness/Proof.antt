@@ -10,18 +10,6 @@ use Rattle.curiumtoad_c.proofs.Within.{witness-small}
 use Rattle.curiumtoad_c.proofs.curiumtoad_witness.Statement.{statement}
 use Rattle.curiumtoad_c.proofs.curiumtoad_witness.Tie as tie
 
-witness-requires : tie.Need-witness-requires
-witness-requires c κs = search needs
-
-of-witness-requires : tie.Need-of-witness-requires
-of-witness-requires c κs = search needs
-
-give-requires : tie.Need-give-requires
-give-requires c κs = search needs
-
-same-length : tie.Need-same-length
-same-length c = search needs
-
 returns : tie.Need-returns
 returns c =
     let f = c .before in
@@ -35,4 +23,4 @@ returns c =
 
 pub curiumtoad-witness-spec : {M : Type 1} → statement M
 curiumtoad-witness-spec =
-    tie.close (tie.spec witness-requires of-witness-requires give-requires same-length returns)
+    tie.close (tie.spec (λ c κs. search needs) (λ c κs. search needs) (λ c κs. search needs) (λ c. search needs) returns)

@@ -10,15 +10,6 @@ use Rattle.curiumtoad.proofs.Judging.{judged-alike, scratch-length, scr
 use Rattle.curiumtoad.proofs.checked_run.checked_run.Statement.{statement}
 use Rattle.curiumtoad.proofs.checked_run.checked_run.Tie as tie
 
-check-requires : tie.Need-check-requires
-check-requires c κs = search needs
-
-run-requires : tie.Need-run-requires
-run-requires c κs = search needs
-
-same-length : tie.Need-same-length
-same-length c = search needs
-
 returns : tie.Need-returns
 returns c =
     let r = c .before .before in
@@ -40,4 +31,4 @@ returns c =
     )
 
 pub checked-run-spec : {M : Type 1} → statement M
-checked-run-spec = tie.close (tie.spec check-requires run-requires same-length returns)
+checked-run-spec = tie.close (tie.spec (λ c κs. search needs) (λ c κs. search needs) (λ c. search needs) returns)

@@ -5,12 +5,9 @@ use Rattle.rules.specs.Calls.{openingCall}
 use Rattle.curiumtoad.proofs.opening.open.Statement.{statement}
 use Rattle.curiumtoad.proofs.opening.open.Tie as tie
 
-open-requires : tie.Need-open-requires
-open-requires c κs = search needs
-
 returns : tie.Need-returns
 unfolding openingCall
 returns c = (c .«open» .ensures .answer, c .«open» .ensures)
 
 pub open-spec : {M : Type 1} → statement M
-open-spec = tie.close (tie.spec open-requires returns)
+open-spec = tie.close (tie.spec (λ c κs. search needs) returns)

@@ -2,29 +2,17 @@
 -- Assumes nothing.
 use borrow.Author.Needs.{needs}
 use mathlib.Core.Path.{sym, _∙_}
-use Rattle.layout.proofs.Opened.{opened-of}
+use Rattle.bundle_rules.proofs.Opened.{opened-of}
 use Rattle.curiumtoad.proofs.Called.{scratch-refused, scratch-short, scratch-filled}
 use Rattle.curiumtoad.proofs.prepare.prepare.Statement.{statement}
 use Rattle.curiumtoad.proofs.prepare.prepare.Tie as tie
-
-open-requires : tie.Need-open-requires
-open-requires c κs = search needs
-
-enum-known-opening : tie.Need-enum-known-opening
-enum-known-opening c = search needs
-
-enum-told : tie.Need-enum-told
-enum-told c = search needs
-
-finding-requires : tie.Need-finding-requires
-finding-requires c κs = rw (c .enum-told .given .1) tt
 
 returns : tie.Need-returns
 returns c =
     let o = c .before .before .before in
     let g = o .before .before .before in
-    let e = (rw (c .finding .ensures) at (o .«open» .ensures .1)) .answer in
-    (e, sym (scratch-refused (g .args .bundle .now) (g .args .scratch .now) (c .finding .result) e))
+    let e = (rw (c .finding-of .ensures) at (o .«open» .ensures .1)) .answer in
+    (e, sym (scratch-refused (g .args .bundle .now) (g .args .scratch .now) (c .finding-of .result) e))
 
 returns-2 : tie.Need-returns-2
 returns-2 c =
@@ -38,9 +26,6 @@ fill-requires : tie.Need-fill-requires
 fill-requires c κs =
     let k = c .before .before .before in
     (opened-of (rw (k .opening .given .1) at (k .before .before .«open» .ensures .1)), search needs)
-
-same-length : tie.Need-same-length
-same-length c = search needs
 
 returns-3 : tie.Need-returns-3
 returns-3 c =
@@ -56,12 +41,12 @@ pub prepare-spec : {M : Type 1} → statement M
 prepare-spec =
     tie.close
     (tie.spec
-    open-requires
-    enum-known-opening
-    enum-told
-    finding-requires
+    (λ c κs. search needs)
+    (λ c. search needs)
+    (λ c. search needs)
+    (λ c κs. rw (c .enum-told .given .1) tt)
     returns
     returns-2
     fill-requires
-    same-length
+    (λ c. search needs)
     returns-3)

@@ -1,20 +1,21 @@
--- `curiumtoad::prepare::refusal` meets its contract: what could not be prepared holds a refusal.
+-- `curiumtoad::prepare::refusal` meets its contract, by why the call could not be prepared.
 -- Assumes nothing.
 use borrow.Author.Needs.{needs}
+use mathlib.Core.Path.{refl, ap, _∙_}
+use Rattle.curiumtoad.specs.declared.prepare.Early.{Early}
+use Rattle.curiumtoad.specs.declared.prepare.Preparation.the-variants as prepared
 use Rattle.curiumtoad.proofs.prepare.refusal.Statement.{statement}
 use Rattle.curiumtoad.proofs.prepare.refusal.Tie as tie
 
-enum-known-prepared : tie.Need-enum-known-prepared
-enum-known-prepared c = search needs
-
-enum-told : tie.Need-enum-told
-enum-told c = search needs
-
 returns : tie.Need-returns
-returns c = search needs
+returns c =
+    let e = c .before .before .before .reason in
+    record { early = _; unprepared = e .ensures ∙ ap (λ (x : Early). prepared.Refused x) (c .before .found .given .1); same = refl }
 
 returns-2 : tie.Need-returns-2
-returns-2 c = absurd (rw (c .enum-told .given .1) at (c .before .before .pre))
+returns-2 c =
+    let e = c .before .before .reason in
+    record { early = _; unprepared = e .ensures ∙ ap (λ (x : Early). prepared.Refused x) (c .enum-told .given .1); same = refl }
 
 pub refusal-spec : {M : Type 1} → statement M
-refusal-spec = tie.close (tie.spec enum-known-prepared enum-told returns returns-2)
+refusal-spec = tie.close (tie.spec (λ c κs. search needs) (λ c. search needs) (λ c. search needs) returns returns-2)

@@ -1,44 +1,23 @@
 -- `curiumtoad::run_accepted::run_accepted` meets its contract: the answers of the check and of the run, and their soundness for the end.
 -- Assumes nothing.
 use borrow.Author.Needs.{needs}
-use mathlib.Core.Path.{refl, sym, ap, _∙_}
+use mathlib.Core.Path.{sym, ap, _∙_}
 use mathlib.Core.List.{[], _∷_}
 use lib.ListN.{length}
 use borrow.Author.Tests.{not-true, not-false}
 use Rattle.rules.specs.Model.{modelOf}
 use Rattle.rules.specs.Calls.{used}
-use Rattle.layout.proofs.Opened.{opened-of}
-use Rattle.machine.specs.Endings.{outcomeOf}
-use Rattle.curiumtoad.specs.Said.{runSaid}
-use Rattle.curiumtoad.proofs.Accepting.{accepted-check, ended-call, not-accepted, outcome-unstopped, sound-end, accepts-end, accepted-opens, accepted-filled, answered-send, covered-opening, not-covered}
+use Rattle.bundle_rules.proofs.Opened.{opened-of}
+use Rattle.machine.specs.Outcome.{outcomeOf}
+use Rattle.calls.specs.Said.{runSaid}
+use Rattle.curiumtoad.proofs.Accepting.{accepted-check, ended-call, not-accepted, outcome-unstopped, sound-end, accepts-end, accepted-opens, accepted-prepared, answered-send, covered-opening, not-covered}
 use Rattle.curiumtoad.proofs.run_accepted.run_accepted.Statement.{statement}
 use Rattle.curiumtoad.proofs.run_accepted.run_accepted.Tie as tie
-
-checked-run-requires : tie.Need-checked-run-requires
-checked-run-requires c κs = search needs
-
-enum-known-answer : tie.Need-enum-known-answer
-enum-known-answer c = search needs
-
-enum-told : tie.Need-enum-told
-enum-told c = search needs
-
-refused-requires : tie.Need-refused-requires
-refused-requires c κs = rw (c .enum-told .given .1) tt
-
-same-length : tie.Need-same-length
-same-length c = search needs
 
 returns : tie.Need-returns
 returns c =
     let k = c .before .before .before .before .before in
     (sym (k .checked-run .ensures .1 .0) ∙ ap runSaid (c .refused .ensures), k .checked-run .ensures .1 .1 .1)
-
-enum-known-verdict : tie.Need-enum-known-verdict
-enum-known-verdict c = search needs
-
-same-length-2 : tie.Need-same-length-2
-same-length-2 c = search needs
 
 returns-2 : tie.Need-returns-2
 returns-2 c =
@@ -53,21 +32,6 @@ returns-2 c =
     let ended = ended-call b n f tuple count (a .0 .0) (a .1) (k .checked-run .ensures .1 .0) in
     let v = c .before .verdict .given in
     (not-accepted b n f tuple count (v .0 .0) (v .1) (k .checked-run .ensures .0) ended, k .checked-run .ensures .1 .1 .1)
-
-enum-told-2 : tie.Need-enum-told-2
-enum-told-2 c = search needs
-
-open-requires : tie.Need-open-requires
-open-requires c κs = search needs
-
-enum-known-opening : tie.Need-enum-known-opening
-enum-known-opening c = search needs
-
-enum-told-3 : tie.Need-enum-told-3
-enum-told-3 c = search needs
-
-same-length-3 : tie.Need-same-length-3
-same-length-3 c = search needs
 
 returns-3 : tie.Need-returns-3
 returns-3 c =
@@ -84,29 +48,52 @@ returns-3 c =
     let o = c .enum-told3 .given in
     absurd (accepted-opens b n (o .0 .0) checked (rw (o .1) at (c .before .before .«open» .ensures .1)))
 
-slice-aggregate-is-covered : tie.Need-slice-aggregate-is-covered
-slice-aggregate-is-covered c = search needs
-
 is-covered-requires : tie.Need-is-covered-requires
 is-covered-requires c κs =
-    let k = c .before .before .before .before .before .before .before .before .before .before .before .before .before in
+    let k = c .before .before .before .before .before .before .before .before .before .before .before .before in
     let g = k .before .before .before .before in
     let b = g .args .bundle .now in
     let n = length (g .args .scratch .now) in
     let f = g .args .function in
     let tuple = g .args .a0 ∷ g .args .a1 ∷ g .args .a2 ∷ [] in
     let count = g .args .count in
-    let a = c .before .before .before .before .before .before .before .before .before .answer .given in
+    let a = c .before .before .before .before .before .before .before .before .answer .given in
     let ended = ended-call b n f tuple count (a .0 .0) (a .1) (k .checked-run .ensures .1 .0) in
-    let checked = accepted-check b n f tuple count (c .before .before .before .before .before .before .enum-told2 .given .1) (k .checked-run .ensures .0) in
-    let o = c .before .before .before .opening .given in
-    (opened-of (rw (o .1) at (c .before .before .before .before .before .«open» .ensures .1)), (accepted-filled b (g .args .scratch .now) checked (k .checked-run .ensures .1 .1 .1), (answered-send b n f tuple count ended, refl)))
-
-same-length-4 : tie.Need-same-length-4
-same-length-4 c = search needs
+    let checked = accepted-check b n f tuple count (c .before .before .before .before .before .enum-told2 .given .1) (k .checked-run .ensures .0) in
+    let o = c .before .before .opening .given in
+    let opened = opened-of (rw (o .1) at (c .before .before .before .before .«open» .ensures .1)) in
+    (accepted-prepared b (g .args .scratch .now) checked opened (k .checked-run .ensures .1 .1 .1), answered-send b n f tuple count ended)
 
 returns-4 : tie.Need-returns-4
 returns-4 c =
+    let k = c .before .before .before .before .before .before .before .before .before .before .before .before .before .before in
+    let g = k .before .before .before .before in
+    let b = g .args .bundle .now in
+    let n = length (g .args .scratch .now) in
+    let f = g .args .function in
+    let tuple = g .args .a0 ∷ g .args .a1 ∷ g .args .a2 ∷ [] in
+    let count = g .args .count in
+    let a = c .before .before .before .before .before .before .before .before .before .before .answer .given in
+    let ended = ended-call b n f tuple count (a .0 .0) (a .1) (k .checked-run .ensures .1 .0) in
+    let checked = accepted-check b n f tuple count (c .before .before .before .before .before .before .before .enum-told2 .given .1) (k .checked-run .ensures .0) in
+    ((checked, (outcomeOf (a .0 .0), ended), not-covered (modelOf b) f (used (modelOf b) f tuple) (sym (c .before .is-covered .ensures) ∙ not-true _ (c .if1 .taken))), k .checked-run .ensures .1 .1 .1)
+
+sound-end-requires : tie.Need-sound-end-requires
+sound-end-requires c κs =
+    let k = c .before .before .before .before .before .before .before .before .before .before .before .before .before .before in
+    let g = k .before .before .before .before in
+    let b = g .args .bundle .now in
+    let n = length (g .args .scratch .now) in
+    let f = g .args .function in
+    let tuple = g .args .a0 ∷ g .args .a1 ∷ g .args .a2 ∷ [] in
+    let count = g .args .count in
+    let a = c .before .before .before .before .before .before .before .before .before .before .answer .given in
+    let ended = ended-call b n f tuple count (a .0 .0) (a .1) (k .checked-run .ensures .1 .0) in
+    outcome-unstopped (modelOf b) f tuple count (a .0 .0)
+    (sound-end b n f tuple count (a .0 .0) (c .before .before .before .before .before .before .before .enum-told2 .given .1) (a .1) ended (k .checked-run .ensures .1 .1 .0) (sym (c .before .is-covered .ensures) ∙ not-false _ (c .if1 .left)))
+
+returns-5 : tie.Need-returns-5
+returns-5 c =
     let k = c .before .before .before .before .before .before .before .before .before .before .before .before .before .before .before in
     let g = k .before .before .before .before in
     let b = g .args .bundle .now in
@@ -117,39 +104,8 @@ returns-4 c =
     let a = c .before .before .before .before .before .before .before .before .before .before .before .answer .given in
     let ended = ended-call b n f tuple count (a .0 .0) (a .1) (k .checked-run .ensures .1 .0) in
     let checked = accepted-check b n f tuple count (c .before .before .before .before .before .before .before .before .enum-told2 .given .1) (k .checked-run .ensures .0) in
-    ((checked, (outcomeOf (a .0 .0), ended), not-covered (modelOf b) f (used (modelOf b) f tuple) (sym (c .before .is-covered .ensures) ∙ not-true _ (c .if1 .taken))), k .checked-run .ensures .1 .1 .1)
-
-sound-end-requires : tie.Need-sound-end-requires
-sound-end-requires c κs =
-    let k = c .before .before .before .before .before .before .before .before .before .before .before .before .before .before .before in
-    let g = k .before .before .before .before in
-    let b = g .args .bundle .now in
-    let n = length (g .args .scratch .now) in
-    let f = g .args .function in
-    let tuple = g .args .a0 ∷ g .args .a1 ∷ g .args .a2 ∷ [] in
-    let count = g .args .count in
-    let a = c .before .before .before .before .before .before .before .before .before .before .before .answer .given in
-    let ended = ended-call b n f tuple count (a .0 .0) (a .1) (k .checked-run .ensures .1 .0) in
-    outcome-unstopped (modelOf b) f tuple count (a .0 .0)
-    (sound-end b n f tuple count (a .0 .0) (c .before .before .before .before .before .before .before .before .enum-told2 .given .1) (a .1) ended (k .checked-run .ensures .1 .1 .0) (sym (c .before .is-covered .ensures) ∙ not-false _ (c .if1 .left)))
-
-same-length-5 : tie.Need-same-length-5
-same-length-5 c = search needs
-
-returns-5 : tie.Need-returns-5
-returns-5 c =
-    let k = c .before .before .before .before .before .before .before .before .before .before .before .before .before .before .before .before in
-    let g = k .before .before .before .before in
-    let b = g .args .bundle .now in
-    let n = length (g .args .scratch .now) in
-    let f = g .args .function in
-    let tuple = g .args .a0 ∷ g .args .a1 ∷ g .args .a2 ∷ [] in
-    let count = g .args .count in
-    let a = c .before .before .before .before .before .before .before .before .before .before .before .before .answer .given in
-    let ended = ended-call b n f tuple count (a .0 .0) (a .1) (k .checked-run .ensures .1 .0) in
-    let checked = accepted-check b n f tuple count (c .before .before .before .before .before .before .before .before .before .enum-told2 .given .1) (k .checked-run .ensures .0) in
     let covers = sym (c .before .before .is-covered .ensures) ∙ not-false _ (c .before .if1 .left) in
-    let told = c .before .before .before .before .before .before .before .before .before .enum-told2 .given .1 in
+    let told = c .before .before .before .before .before .before .before .before .enum-told2 .given .1 in
     let sound = sound-end b n f tuple count (a .0 .0) told (a .1) ended (k .checked-run .ensures .1 .1 .0) covers in
     (accepts-end b n f tuple count (c .sound-end .result) (outcomeOf (a .0 .0)) (c .sound-end .ensures) checked (covered-opening b n f tuple count ended covers) ended sound, k .checked-run .ensures .1 .1 .1)
 
@@ -157,25 +113,24 @@ pub run-accepted-spec : {M : Type 1} → statement M
 run-accepted-spec =
     tie.close
     (tie.spec
-    checked-run-requires
-    enum-known-answer
-    enum-told
-    refused-requires
-    same-length
+    (λ c κs. search needs)
+    (λ c. search needs)
+    (λ c. search needs)
+    (λ c κs. rw (c .enum-told .given .1) tt)
+    (λ c. search needs)
     returns
-    enum-known-verdict
-    same-length-2
+    (λ c. search needs)
+    (λ c. search needs)
     returns-2
-    enum-told-2
-    open-requires
-    enum-known-opening
-    enum-told-3
-    same-length-3
+    (λ c. search needs)
+    (λ c κs. search needs)
+    (λ c. search needs)
+    (λ c. search needs)
+    (λ c. search needs)
     returns-3
-    slice-aggregate-is-covered
     is-covered-requires
-    same-length-4
+    (λ c. search needs)
     returns-4
     sound-end-requires
-    same-length-5
+    (λ c. search needs)
     returns-5)

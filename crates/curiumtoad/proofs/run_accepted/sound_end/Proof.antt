@@ -1,33 +1,10 @@
 -- `curiumtoad::run_accepted::sound_end` meets its contract: the three sound ends, and no other comes here.
 -- Assumes nothing.
 use borrow.Author.Needs.{needs}
-use Rattle.machine.specs.Endings.{endingOf, outcomeOf}
+use Rattle.machine.specs.Endings.{endingOf}
+use Rattle.machine.specs.Outcome.{outcomeOf}
 use Rattle.curiumtoad.proofs.run_accepted.sound_end.Statement.{statement}
 use Rattle.curiumtoad.proofs.run_accepted.sound_end.Tie as tie
-
-enum-known-ending : tie.Need-enum-known-ending
-enum-known-ending c = search needs
-
-enum-told : tie.Need-enum-told
-enum-told c = search needs
-
-enum-told-2 : tie.Need-enum-told-2
-enum-told-2 c = search needs
-
-enum-told-3 : tie.Need-enum-told-3
-enum-told-3 c = search needs
-
-enum-told-4 : tie.Need-enum-told-4
-enum-told-4 c = search needs
-
-enum-told-5 : tie.Need-enum-told-5
-enum-told-5 c = search needs
-
-enum-told-6 : tie.Need-enum-told-6
-enum-told-6 c = search needs
-
-enum-told-7 : tie.Need-enum-told-7
-enum-told-7 c = search needs
 
 returns : tie.Need-returns
 unfolding outcomeOf endingOf
@@ -41,38 +18,23 @@ returns-3 : tie.Need-returns-3
 unfolding outcomeOf endingOf
 returns-3 c = rw (c .enum-told2 .given .1)
 
-returns-4 : tie.Need-returns-4
-returns-4 c = absurd (rw (c .enum-told3 .given .1) at (c .before .before .pre))
-
-returns-5 : tie.Need-returns-5
-returns-5 c = absurd (rw (c .enum-told4 .given .1) at (c .before .before .pre))
-
-returns-6 : tie.Need-returns-6
-returns-6 c = absurd (rw (c .enum-told5 .given .1) at (c .before .before .pre))
-
-returns-7 : tie.Need-returns-7
-returns-7 c = absurd (rw (c .enum-told6 .given .1) at (c .before .before .pre))
-
-returns-8 : tie.Need-returns-8
-returns-8 c = absurd (rw (c .enum-told7 .given .1) at (c .before .before .pre))
-
 pub sound-end-spec : {M : Type 1} → statement M
 sound-end-spec =
     tie.close
     (tie.spec
-    enum-known-ending
-    enum-told
-    enum-told-2
-    enum-told-3
-    enum-told-4
-    enum-told-5
-    enum-told-6
-    enum-told-7
+    (λ c. search needs)
+    (λ c. search needs)
+    (λ c. search needs)
+    (λ c. search needs)
+    (λ c. search needs)
+    (λ c. search needs)
+    (λ c. search needs)
+    (λ c. search needs)
     returns
     returns-2
     returns-3
-    returns-4
-    returns-5
-    returns-6
-    returns-7
-    returns-8)
+    (λ c. absurd (rw (c .enum-told3 .given .1) at (c .before .before .pre)))
+    (λ c. absurd (rw (c .enum-told4 .given .1) at (c .before .before .pre)))
+    (λ c. absurd (rw (c .enum-told5 .given .1) at (c .before .before .pre)))
+    (λ c. absurd (rw (c .enum-told6 .given .1) at (c .before .before .pre)))
+    (λ c. absurd (rw (c .enum-told7 .given .1) at (c .before .before .pre))))

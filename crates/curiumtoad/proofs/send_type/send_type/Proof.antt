@@ -5,69 +5,47 @@ use mathlib.Core.Path.{sym}
 use mathlib.Core.List.{[], _∷_}
 use lib.ListN.{length}
 use Rattle.rules.specs.Calls.{sendTypeIn, sendTypeCall, rowAfter}
-use Rattle.curiumtoad.proofs.Called.{not-prepared, when-prepared, prepared-filled, refusal-blank, refusal-row}
+use Rattle.curiumtoad.proofs.Called.{refused-call, when-prepared, prepared-by, refusal-blank, refusal-row}
 use Rattle.curiumtoad.proofs.send_type.send_type.Statement.{statement}
 use Rattle.curiumtoad.proofs.send_type.send_type.Tie as tie
-
-prepare-requires : tie.Need-prepare-requires
-prepare-requires c κs = search needs
-
-enum-known-prepared : tie.Need-enum-known-prepared
-enum-known-prepared c = search needs
-
-enum-told : tie.Need-enum-told
-enum-told c = search needs
-
-refusal-requires : tie.Need-refusal-requires
-refusal-requires c κs = rw (c .enum-told .given .1) tt
-
-same-length : tie.Need-same-length
-same-length c = search needs
 
 returns : tie.Need-returns
 unfolding sendTypeCall rowAfter
 returns c =
     let p = c .before .before .before .before .before in
-    let g = p .before .before .before .before .before in
-    let e = not-prepared (g .args .bundle .now) (g .args .scratch .now) (sendTypeIn (length (g .args .row .now)) (g .args .function) (g .args .a0 ∷ g .args .a1 ∷ g .args .a2 ∷ [])) (c .refusal .result) (rw (c .refusal .ensures) at (p .prepare .ensures .0)) in
+    let a = p .before .before .before .before .before .args in
+    let e = refused-call (a .bundle .now) (a .scratch .now) (sendTypeIn (length (a .row .now)) (a .function) (a .a0 ∷ a .a1 ∷ a .a2 ∷ [])) (p .prepare .ensures .0) (c .refusal .ensures) in
     rw e (sym (refusal-blank (c .refusal .result)), (p .prepare .ensures .1, sym (refusal-row _ _ (c .refusal .result))))
 
-answer-requires : tie.Need-answer-requires
-answer-requires c κs =
+send-type-in-requires : tie.Need-send-type-in-requires
+send-type-in-requires c κs =
     let k = c .before .before .before in
     let p = k .before .before .before .before in
-    let g = p .before .before .before .before .before in
-    let ready = rw (k .prepared .given .1) at (p .prepare .ensures .0) in
-    (ready .0, prepared-filled (g .args .bundle .now) (g .args .scratch .now) ready (p .prepare .ensures .1))
-
-same-length-2 : tie.Need-same-length-2
-same-length-2 c = search needs
-
-same-length-3 : tie.Need-same-length-3
-same-length-3 c = search needs
+    let a = p .before .before .before .before .before .args in
+    prepared-by (a .bundle .now) (a .scratch .now) (rw (k .prepared .given .1) at (p .prepare .ensures .0)) (p .prepare .ensures .1)
 
 returns-2 : tie.Need-returns-2
 unfolding sendTypeCall rowAfter
 returns-2 c =
-    let a = c .before .before in
-    let k = a .before .before .before .before in
+    let s = c .before .before in
+    let k = s .before .before .before .before in
     let p = k .before .before .before .before in
-    let g = p .before .before .before .before .before in
+    let a = p .before .before .before .before .before .args in
     let ready = rw (k .prepared .given .1) at (p .prepare .ensures .0) in
-    rw (when-prepared (g .args .bundle .now) (g .args .scratch .now) (sendTypeIn (length (g .args .row .now)) (g .args .function) (g .args .a0 ∷ g .args .a1 ∷ g .args .a2 ∷ [])) ready)
-    (a .answer .ensures .0, (p .prepare .ensures .1, a .answer .ensures .1))
+    rw (when-prepared (a .bundle .now) (a .scratch .now) (sendTypeIn (length (a .row .now)) (a .function) (a .a0 ∷ a .a1 ∷ a .a2 ∷ [])) ready)
+    (s .send-type-in .ensures .0, (p .prepare .ensures .1, s .send-type-in .ensures .1))
 
 pub send-type-spec : {M : Type 1} → statement M
 send-type-spec =
     tie.close
     (tie.spec
-    prepare-requires
-    enum-known-prepared
-    enum-told
-    refusal-requires
-    same-length
+    (λ c κs. search needs)
+    (λ c. search needs)
+    (λ c. search needs)
+    (λ c κs. rw (c .enum-told .given .1) tt)
+    (λ c. search needs)
     returns
-    answer-requires
-    same-length-2
-    same-length-3
+    send-type-in-requires
+    (λ c. search needs)
+    (λ c. search needs)
     returns-2)

@@ -5,7 +5,7 @@ use mathlib.Core.Path.{_≡_, refl, sym, ap, _∙_}
 use Prim.Native.Nat.{ℕ, _+_}
 use native.Mathlib.Nat.{zero-add}
 use Rattle.rules.specs.Calls.{startOn, bodyViewStart}
-use Rattle.layout.proofs.Opened.{opened-of}
+use Rattle.bundle_rules.proofs.Opened.{opened-of}
 use Rattle.curiumtoad.proofs.Called.{first-value, view-refused, view-absent, view-given}
 use Rattle.curiumtoad.proofs.view.body_view.Statement.{statement}
 use Rattle.curiumtoad.proofs.view.body_view.Tie as tie
@@ -14,38 +14,14 @@ use Rattle.curiumtoad.proofs.view.body_view.Tie as tie
 from-the-start : (p : ℕ × ℕ) → p ≡ (p .0, 0 + p .1)
 from-the-start p = sym (ap (λ (x : ℕ). (p .0, x)) (zero-add (p .1)))
 
-open-requires : tie.Need-open-requires
-open-requires c κs = search needs
-
-enum-known-opening : tie.Need-enum-known-opening
-enum-known-opening c = search needs
-
-enum-told : tie.Need-enum-told
-enum-told c = search needs
-
-finding-requires : tie.Need-finding-requires
-finding-requires c κs = rw (c .enum-told .given .1) tt
-
-number-requires : tie.Need-number-requires
-number-requires c κs = search needs
-
-record-requires : tie.Need-record-requires
-record-requires c κs = search needs
-
-slice-aggregate-result : tie.Need-slice-aggregate-result
-slice-aggregate-result c = search needs
-
 returns : tie.Need-returns
 unfolding bodyViewStart startOn
 returns c =
     let f = c .before .before .before in
     let o = f .before .before .before in
     let g = o .before .before in
-    let e = view-refused (g .args .bundle .now) (g .args .method) (f .finding .result) (rw (f .finding .ensures) at (o .«open» .ensures .1)) in
-    rw e (from-the-start (g .args .bundle .ptr), (refl, (c .before .before .number .ensures, c .before .«record» .ensures ∙ first-value (f .finding .result))))
-
-slice-aggregate-result-2 : tie.Need-slice-aggregate-result-2
-slice-aggregate-result-2 c = search needs
+    let e = view-refused (g .args .bundle .now) (g .args .method) (f .finding-of .result) (rw (f .finding-of .ensures) at (o .«open» .ensures .1)) in
+    rw e (from-the-start (g .args .bundle .ptr), (refl, (c .before .before .number .ensures, c .before .«record» .ensures ∙ first-value (f .finding-of .result))))
 
 returns-2 : tie.Need-returns-2
 unfolding bodyViewStart startOn
@@ -73,15 +49,15 @@ pub body-view-spec : {M : Type 1} → statement M
 body-view-spec =
     tie.close
     (tie.spec
-    open-requires
-    enum-known-opening
-    enum-told
-    finding-requires
-    number-requires
-    record-requires
-    slice-aggregate-result
+    (λ c κs. search needs)
+    (λ c. search needs)
+    (λ c. search needs)
+    (λ c κs. rw (c .enum-told .given .1) tt)
+    (λ c κs. search needs)
+    (λ c κs. search needs)
+    (λ c. search needs)
     returns
-    slice-aggregate-result-2
+    (λ c. search needs)
     returns-2
     code-of-requires
     returns-3)

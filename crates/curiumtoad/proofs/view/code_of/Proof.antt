@@ -8,21 +8,6 @@ use Rattle.rules.specs.Bytes.{part}
 use Rattle.curiumtoad.proofs.view.code_of.Statement.{statement}
 use Rattle.curiumtoad.proofs.view.code_of.Tie as tie
 
-body-span-requires : tie.Need-body-span-requires
-body-span-requires c κs = (c .before .pre .0, search needs)
-
-add-end : tie.Need-add-end
-add-end c = search needs
-
-sub-result : tie.Need-sub-result
-sub-result c = search needs
-
-part-result-start : tie.Need-part-result-start
-part-result-start c = search needs
-
-part-result-end : tie.Need-part-result-end
-part-result-end c = search needs
-
 returns : tie.Need-returns
 unfolding part
 returns c =
@@ -33,4 +18,4 @@ returns c =
     (ap (λ (x : ℕ). (p .0, x + p .1)) (s .body-span .ensures .place), rw size (s .body-span .ensures .code))
 
 pub code-of-spec : {M : Type 1} → statement M
-code-of-spec = tie.close (tie.spec body-span-requires add-end sub-result part-result-start part-result-end returns)
+code-of-spec = tie.close (tie.spec (λ c κs. (c .before .pre .0, search needs)) (λ c. search needs) (λ c. search needs) (λ c. search needs) (λ c. search needs) returns)

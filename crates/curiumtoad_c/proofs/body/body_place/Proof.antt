@@ -2,24 +2,12 @@
 -- Assumes nothing.
 use borrow.Author.Needs.{needs}
 use mathlib.Core.Path.{_∙_}
-use Rattle.layout.proofs.Opened.{opened-of}
+use Rattle.bundle_rules.proofs.Opened.{opened-of}
 use Rattle.curiumtoad.proofs.Called.{view-refused, view-absent, view-given}
 use Rattle.curiumtoad_c.proofs.Replies.{said-layout}
 use Rattle.curiumtoad_c.proofs.Within.{span-values}
 use Rattle.curiumtoad_c.proofs.body.body_place.Statement.{statement}
 use Rattle.curiumtoad_c.proofs.body.body_place.Tie as tie
-
-open-requires : tie.Need-open-requires
-open-requires c κs = search needs
-
-enum-known-opening : tie.Need-enum-known-opening
-enum-known-opening c = search needs
-
-enum-told : tie.Need-enum-told
-enum-told c = search needs
-
-of-opening-requires : tie.Need-of-opening-requires
-of-opening-requires c κs = search needs
 
 returns : tie.Need-returns
 returns c =
@@ -29,9 +17,6 @@ returns c =
     let f = t .enum-told .given .0 .0 in
     rw (view-refused (g .args .bundle .now) (g .args .method) f (rw (t .enum-told .given .1) at (o .«open» .ensures .1)))
     (said-layout f (rw (t .enum-told .given .1) at (c .of-opening .ensures)))
-
-short-requires : tie.Need-short-requires
-short-requires c κs = search needs
 
 returns-2 : tie.Need-returns-2
 returns-2 c =
@@ -44,9 +29,6 @@ body-span-requires : tie.Need-body-span-requires
 body-span-requires c κs =
     let k = c .before .before .before in
     (opened-of (rw (k .opening .given .1) at (k .before .before .«open» .ensures .1)), search needs)
-
-short-requires-2 : tie.Need-short-requires-2
-short-requires-2 c κs = search needs
 
 returns-3 : tie.Need-returns-3
 returns-3 c =
@@ -62,13 +44,13 @@ pub body-place-spec : {M : Type 1} → statement M
 body-place-spec =
     tie.close
     (tie.spec
-    open-requires
-    enum-known-opening
-    enum-told
-    of-opening-requires
+    (λ c κs. search needs)
+    (λ c. search needs)
+    (λ c. search needs)
+    (λ c κs. search needs)
     returns
-    short-requires
+    (λ c κs. search needs)
     returns-2
     body-span-requires
-    short-requires-2
+    (λ c κs. search needs)
     returns-3)

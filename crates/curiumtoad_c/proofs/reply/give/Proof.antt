@@ -6,30 +6,6 @@ use Rattle.curiumtoad_c.proofs.Replies.{same-eight}
 use Rattle.curiumtoad_c.proofs.reply.give.Statement.{statement}
 use Rattle.curiumtoad_c.proofs.reply.give.Tie as tie
 
-narrow-requires : tie.Need-narrow-requires
-narrow-requires c κs = search needs
-
-narrow-requires-2 : tie.Need-narrow-requires-2
-narrow-requires-2 c κs = search needs
-
-narrow-requires-3 : tie.Need-narrow-requires-3
-narrow-requires-3 c κs = search needs
-
-narrow-requires-4 : tie.Need-narrow-requires-4
-narrow-requires-4 c κs = search needs
-
-narrow-requires-5 : tie.Need-narrow-requires-5
-narrow-requires-5 c κs = search needs
-
-narrow-requires-6 : tie.Need-narrow-requires-6
-narrow-requires-6 c κs = search needs
-
-narrow-requires-7 : tie.Need-narrow-requires-7
-narrow-requires-7 c κs = search needs
-
-narrow-requires-8 : tie.Need-narrow-requires-8
-narrow-requires-8 c κs = search needs
-
 returns : tie.Need-returns
 returns c =
     let c7 = c .before in
@@ -46,12 +22,12 @@ pub give-spec : {M : Type 1} → statement M
 give-spec =
     tie.close
     (tie.spec
-    narrow-requires
-    narrow-requires-2
-    narrow-requires-3
-    narrow-requires-4
-    narrow-requires-5
-    narrow-requires-6
-    narrow-requires-7
-    narrow-requires-8
+    (λ c κs. search needs)
+    (λ c κs. search needs)
+    (λ c κs. search needs)
+    (λ c κs. search needs)
+    (λ c κs. search needs)
+    (λ c κs. search needs)
+    (λ c κs. search needs)
+    (λ c κs. search needs)
     returns)

@@ -5,12 +5,9 @@ use Rattle.curiumtoad_c.specs.Exported.{low}
 use Rattle.curiumtoad_c.proofs.reply.narrow.Statement.{statement}
 use Rattle.curiumtoad_c.proofs.reply.narrow.Tie as tie
 
-cast-result : tie.Need-cast-result
-cast-result c = record { fits = mask-lt (c .args .x) 32 }
-
 returns : tie.Need-returns
 unfolding low
 returns c = and-mask (c .args .x) 32
 
 pub narrow-spec : {M : Type 1} → statement M
-narrow-spec = tie.close (tie.spec cast-result returns)
+narrow-spec = tie.close (tie.spec (λ c. record { fits = mask-lt (c .args .x) 32 }) returns)

@@ -7,24 +7,6 @@ use Rattle.curiumtoad_c.proofs.Replies.{refusal-said}
 use Rattle.curiumtoad_c.proofs.reply.of_ancestry.Statement.{statement}
 use Rattle.curiumtoad_c.proofs.reply.of_ancestry.Tie as tie
 
-enum-told : tie.Need-enum-told
-enum-told c = search needs
-
-short-requires : tie.Need-short-requires
-short-requires c κs = search needs
-
-enum-told-2 : tie.Need-enum-told-2
-enum-told-2 c = search needs
-
-short-requires-2 : tie.Need-short-requires-2
-short-requires-2 c κs = search needs
-
-enum-known-answer : tie.Need-enum-known-answer
-enum-known-answer c = search needs
-
-of-refusal-requires : tie.Need-of-refusal-requires
-of-refusal-requires c κs = search needs
-
 returns : tie.Need-returns
 unfolding bit
 returns c = rw (c .before .enum-told .given .1) (c .short .ensures)
@@ -40,12 +22,12 @@ pub of-ancestry-spec : {M : Type 1} → statement M
 of-ancestry-spec =
     tie.close
     (tie.spec
-    enum-told
-    short-requires
-    enum-told-2
-    short-requires-2
-    enum-known-answer
-    of-refusal-requires
+    (λ c. search needs)
+    (λ c κs. search needs)
+    (λ c. search needs)
+    (λ c κs. search needs)
+    (λ c. search needs)
+    (λ c κs. search needs)
     returns
     returns-2
     returns-3)

@@ -9,17 +9,8 @@ use Rattle.curiumtoad_c.proofs.Replies.{layout-values}
 use Rattle.curiumtoad_c.proofs.reply.of_layout.Statement.{statement}
 use Rattle.curiumtoad_c.proofs.reply.of_layout.Tie as tie
 
-number-requires : tie.Need-number-requires
-number-requires c κs = search needs
-
-record-requires : tie.Need-record-requires
-record-requires c κs = search needs
-
-short-requires : tie.Need-short-requires
-short-requires c κs = search needs
-
 returns : tie.Need-returns
 returns c = (c .short .ensures .0 ∙ c .before .before .number .ensures, c .short .ensures .1 ∙ ap (λ (k : ℕ). filled 8 (k ∷ 0 ∷ [])) (c .before .«record» .ensures) ∙ layout-values (c .before .before .before .args .found))
 
 pub of-layout-spec : {M : Type 1} → statement M
-of-layout-spec = tie.close (tie.spec number-requires record-requires short-requires returns)
+of-layout-spec = tie.close (tie.spec (λ c κs. search needs) (λ c κs. search needs) (λ c κs. search needs) returns)

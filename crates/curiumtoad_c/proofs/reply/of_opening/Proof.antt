@@ -5,21 +5,6 @@ use Rattle.curiumtoad_c.proofs.Replies.{layout-said}
 use Rattle.curiumtoad_c.proofs.reply.of_opening.Statement.{statement}
 use Rattle.curiumtoad_c.proofs.reply.of_opening.Tie as tie
 
-enum-known-opening : tie.Need-enum-known-opening
-enum-known-opening c = search needs
-
-of-bundle-requires : tie.Need-of-bundle-requires
-of-bundle-requires c κs = search needs
-
-enum-known-opening-2 : tie.Need-enum-known-opening-2
-enum-known-opening-2 c = search needs
-
-of-layout-requires : tie.Need-of-layout-requires
-of-layout-requires c κs = search needs
-
-returns : tie.Need-returns
-returns c = rw (c .before .before .opening .given .1) (c .of-bundle .ensures)
-
 returns-2 : tie.Need-returns-2
 returns-2 c = rw (c .before .before .opening2 .given .1) (layout-said (c .before .before .opening2 .given .0 .0) (c .of-layout .ensures))
 
@@ -27,9 +12,9 @@ pub of-opening-spec : {M : Type 1} → statement M
 of-opening-spec =
     tie.close
     (tie.spec
-    enum-known-opening
-    of-bundle-requires
-    enum-known-opening-2
-    of-layout-requires
-    returns
+    (λ c. search needs)
+    (λ c κs. search needs)
+    (λ c. search needs)
+    (λ c κs. search needs)
+    (λ c. rw (c .before .before .opening .given .1) (c .of-bundle .ensures))
     returns-2)

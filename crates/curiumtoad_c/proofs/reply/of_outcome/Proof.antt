@@ -2,16 +2,10 @@
 -- Assumes nothing.
 use borrow.Author.Needs.{needs}
 use mathlib.Core.Path.{_∙_}
-use Rattle.machine.specs.Endings.{outcomeOf}
+use Rattle.machine.specs.Outcome.{outcomeOf}
 use Rattle.curiumtoad_c.proofs.Replies.{stepped, steps-last}
 use Rattle.curiumtoad_c.proofs.reply.of_outcome.Statement.{statement}
 use Rattle.curiumtoad_c.proofs.reply.of_outcome.Tie as tie
-
-of-ending-requires : tie.Need-of-ending-requires
-of-ending-requires c κs = search needs
-
-with-steps-requires : tie.Need-with-steps-requires
-with-steps-requires c κs = search needs
 
 returns : tie.Need-returns
 unfolding outcomeOf
@@ -21,4 +15,4 @@ returns c =
     (n, v ∙ steps-last (o .ending) (o .steps))
 
 pub of-outcome-spec : {M : Type 1} → statement M
-of-outcome-spec = tie.close (tie.spec of-ending-requires with-steps-requires returns)
+of-outcome-spec = tie.close (tie.spec (λ c κs. search needs) (λ c κs. search needs) returns)

@@ -5,21 +5,6 @@ use Rattle.curiumtoad_c.proofs.Replies.{refusal-run-said}
 use Rattle.curiumtoad_c.proofs.reply.of_run.Statement.{statement}
 use Rattle.curiumtoad_c.proofs.reply.of_run.Tie as tie
 
-enum-known-answer : tie.Need-enum-known-answer
-enum-known-answer c = search needs
-
-of-outcome-requires : tie.Need-of-outcome-requires
-of-outcome-requires c κs = search needs
-
-enum-known-answer-2 : tie.Need-enum-known-answer-2
-enum-known-answer-2 c = search needs
-
-of-refusal-requires : tie.Need-of-refusal-requires
-of-refusal-requires c κs = search needs
-
-returns : tie.Need-returns
-returns c = rw (c .before .before .answer .given .1) (c .of-outcome .ensures)
-
 returns-2 : tie.Need-returns-2
 returns-2 c = rw (c .before .before .answer2 .given .1) (refusal-run-said (c .of-refusal .result) (c .before .before .answer2 .given .0 .0) (c .of-refusal .ensures))
 
@@ -27,9 +12,9 @@ pub of-run-spec : {M : Type 1} → statement M
 of-run-spec =
     tie.close
     (tie.spec
-    enum-known-answer
-    of-outcome-requires
-    enum-known-answer-2
-    of-refusal-requires
-    returns
+    (λ c. search needs)
+    (λ c κs. search needs)
+    (λ c. search needs)
+    (λ c κs. search needs)
+    (λ c. rw (c .before .before .answer .given .1) (c .of-outcome .ensures))
     returns-2)

@@ -8,9 +8,6 @@ use Rattle.dispatch.proofs.Entry.{filled-less, absent-row, absent-colum
 use Rattle.dispatch.proofs.matrix.entry.Statement.{statement}
 use Rattle.dispatch.proofs.matrix.entry.Tie as tie
 
-returns : tie.Need-returns
-returns c = let g = c .before .before .before .before in absent-row (g .pre .0) (g .args .k) (search needs)
-
 returns-2 : tie.Need-returns-2
 returns-2 c = let g = c .before .before .before .before .before .before in absent-column (g .pre .0) (g .args .k) (search needs) (search needs)
 
@@ -37,4 +34,4 @@ returns-5 c =
     sym (ap bit (sym (c .before .inherits .ensures) ∙ c .if4 .left)) ∙ inherited-entry (g .pre .0) (g .args .k) (search needs) (search needs) (search needs)
 
 pub entry-spec : {M : Type 1} → statement M
-entry-spec = tie.close (tie.spec returns returns-2 returns-3 inherits-requires returns-4 returns-5)
+entry-spec = tie.close (tie.spec (λ c. let g = c .before .before .before .before in absent-row (g .pre .0) (g .args .k) (search needs)) returns-2 returns-3 inherits-requires returns-4 returns-5)

@@ -1,7 +1,7 @@
 -- `dispatch::matrix::fill` meets its contract. The loop's invariant: the first k bytes are the matrix's, the later ones as before.
 -- Assumes nothing.
 use borrow.Author.Needs.{needs}
-use Prim.Native.Nat.{ℕ, _-_, _≤_}
+use Prim.Native.Nat.{_-_, _≤_}
 use native.Mathlib.Omega.{arith}
 use mathlib.Core.Path.{_≡_, sym, ap, _∙_}
 use lib.ListN.{length}
@@ -18,9 +18,6 @@ Inv-loop bytes b scratch₀ k₀ scratch k = (k ≤ scratchBytes) × (scratch �
 abbrev μ-loop : tie.MeasureT-loop
 μ-loop bytes b scratch₀ k₀ scratch k = scratchBytes - k
 
-loop-holds : tie.Need-loop-holds Inv-loop μ-loop
-loop-holds c = (search needs, sym (overwrite-none _ _))
-
 entry-requires : tie.Need-entry-requires Inv-loop μ-loop
 entry-requires c κs =
     let g = c .before .before .before .before .before in
@@ -32,19 +29,10 @@ slice-write-scratch c =
     let n = ap length (s .loop .inv .1) ∙ overwrite-length _ _ _ (search needs) in
     omega (arith, n)
 
-add-k : tie.Need-add-k Inv-loop μ-loop
-add-k c = search needs
-
-loop-less : tie.Need-loop-less Inv-loop μ-loop
-loop-less c = search needs
-
 loop-again : tie.Need-loop-again Inv-loop μ-loop
 loop-again c =
     let s = c .before .before .before in
     (search needs, rw (s .loop .inv .1, c .entry .ensures) (overwrite-more _ _ _ (search needs)))
-
-same-length : tie.Need-same-length Inv-loop μ-loop
-same-length c = ap length (c .before .loop .inv .1) ∙ overwrite-length _ _ _ (search needs)
 
 returns : tie.Need-returns Inv-loop μ-loop
 returns c =
@@ -57,11 +45,11 @@ fill-spec =
     (tie.spec
     Inv-loop
     μ-loop
-    loop-holds
+    (λ c. (search needs, sym (overwrite-none _ _)))
     entry-requires
     slice-write-scratch
-    add-k
-    loop-less
+    (λ c. search needs)
+    (λ c. search needs)
     loop-again
-    same-length
+    (λ c. ap length (c .before .loop .inv .1) ∙ overwrite-length _ _ _ (search needs))
     returns)

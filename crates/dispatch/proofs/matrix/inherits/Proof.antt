@@ -22,21 +22,6 @@ Inv-loop bytes b scratch a c n i₀ i =
 abbrev μ-loop : tie.MeasureT-loop
 μ-loop bytes b scratch a c n i₀ i = n - i
 
-parent-count-requires : tie.Need-parent-count-requires Inv-loop μ-loop
-parent-count-requires c κs = search needs
-
-loop-holds : tie.Need-loop-holds Inv-loop μ-loop
-loop-holds c = (omega arith, below-none _)
-
-parent-requires : tie.Need-parent-requires Inv-loop μ-loop
-parent-requires c κs = search needs
-
-mul-if1 : tie.Need-mul-if1 Inv-loop μ-loop
-mul-if1 c = let h = classes-fit (c .before .before .before .before .before .before .pre .0) in omega arith
-
-add-if1 : tie.Need-add-if1 Inv-loop μ-loop
-add-if1 c = let h = classes-fit (c .before .before .before .before .before .before .pre .0) in omega arith
-
 shared-slice-read-if1 : tie.Need-shared-slice-read-if1 Inv-loop μ-loop
 shared-slice-read-if1 c =
     let h = classes-fit (c .before .before .before .before .before .before .before .pre .0) in
@@ -60,12 +45,6 @@ returns c =
     let g = s .before .before .before .before in
     inherited-hit (g .pre .0) (g .args .a) (g .args .c) (s .loop .i) (search needs) (sym (asked (c .before .before)) ∙ eq-eqb _ 1 (c .if1 .taken))
 
-add-i : tie.Need-add-i Inv-loop μ-loop
-add-i c = search needs
-
-loop-less : tie.Need-loop-less Inv-loop μ-loop
-loop-less c = search needs
-
 loop-again : tie.Need-loop-again Inv-loop μ-loop
 loop-again c =
     let s = c .before .before .before .before in
@@ -82,14 +61,14 @@ inherits-spec =
     (tie.spec
     Inv-loop
     μ-loop
-    parent-count-requires
-    loop-holds
-    parent-requires
-    mul-if1
-    add-if1
+    (λ c κs. search needs)
+    (λ c. (omega arith, below-none _))
+    (λ c κs. search needs)
+    (λ c. let h = classes-fit (c .before .before .before .before .before .before .pre .0) in omega arith)
+    (λ c. let h = classes-fit (c .before .before .before .before .before .before .pre .0) in omega arith)
     shared-slice-read-if1
     returns
-    add-i
-    loop-less
+    (λ c. search needs)
+    (λ c. search needs)
     loop-again
     returns-2)

@@ -1,41 +1,26 @@
--- `dispatch::select::unbeaten` meets its contract. The loop's invariant: no method at a place below i, other than m, is at least as specific as m.
+-- `dispatch::select::unbeaten` meets its contract. The loop's invariant: no method at a position below i, other than m, is at least as specific as m.
 -- Assumes nothing.
 use Prim.Native.Nat.{ℕ, _-_, _≤_, _<_}
 use native.Mathlib.Omega.{arith}
 use mathlib.Core.Path.{_≡_, sym, ap, _∙_}
 use mathlib.Core.Bool.{true, not, _||_}
 use lib.Dec.{eqb}
-use lib.ListN.{getD}
+use lib.ListN.{length, getD}
 use borrow.Author.Count.{below-none, below-more}
 use borrow.Author.Tests.{eq-eqb, ne-eqb}
 use Rattle.rules.specs.Model.{modelOf}
-use Rattle.rules.specs.Lookup.{asSpecific}
-use Rattle.rules.proofs.Lists.{or-left, or-right, or-none}
-use Rattle.dispatch.proofs.Asked.{of-arity, listed-at, unbeaten-judged}
+use Rattle.rules.specs.Lookup.{asSpecific, unbeaten}
+use Rattle.rules.proofs.Lists.{or-left, or-right, or-none, every-places, every-broken}
+use Rattle.dispatch.proofs.Listed.{candidate-at}
 use Rattle.dispatch.proofs.select.unbeaten.Statement.{statement}
 use Rattle.dispatch.proofs.select.unbeaten.Tie as tie
 
 abbrev Inv-loop : tie.InvT-loop
-Inv-loop bytes b scratch f n list count m i₀ i =
-    (i ≤ count) × ((k : ℕ) → k < i → (eqb (getD list k 0) m || not (asSpecific (modelOf bytes) (getD list k 0) m)) ≡ true)
+Inv-loop bytes b scratch f n list m i₀ i =
+    (i ≤ length list) × ((k : ℕ) → k < i → (eqb (getD list k 0) m || not (asSpecific (modelOf bytes) (getD list k 0) m)) ≡ true)
 
 abbrev μ-loop : tie.MeasureT-loop
-μ-loop bytes b scratch f n list count m i₀ i = count - i
-
-loop-holds : tie.Need-loop-holds Inv-loop μ-loop
-loop-holds c = (omega arith, below-none _)
-
-mul-o : tie.Need-mul-o Inv-loop μ-loop
-mul-o c = omega arith
-
-shared-slice-read-o : tie.Need-shared-slice-read-o Inv-loop μ-loop
-shared-slice-read-o c = omega arith
-
-add-i : tie.Need-add-i Inv-loop μ-loop
-add-i c = omega arith
-
-loop-less : tie.Need-loop-less Inv-loop μ-loop
-loop-less c = omega arith
+μ-loop bytes b scratch f n list m i₀ i = length list - i
 
 loop-again : tie.Need-loop-again Inv-loop μ-loop
 loop-again c =
@@ -46,20 +31,14 @@ as-specific-requires : tie.Need-as-specific-requires Inv-loop μ-loop
 as-specific-requires c κs =
     let s = c .before .before in
     let p = s .before .before .before .before .before .pre in
-    let rest = p .1 .1 in
-    let own = rest .1 .1 .1 in
-    let o = listed-at _ _ (rest .1 .0) (p .0) _ (rest .1 .1 .0) (s .before .loop .i) (s .loop-test .taken) in
-    (p .0, (p .1 .0, (o .0, (own .0, (of-arity (p .0) _ (rest .0) (o .1), of-arity (p .0) _ (rest .0) (own .1))))))
+    (p .0, (candidate-at (p .1 .0) (s .before .loop .i) (s .loop-test .taken), p .1 .1))
 
 returns : tie.Need-returns Inv-loop μ-loop
+unfolding unbeaten
 returns c =
     let s = c .before .before .before .before in
-    let p = s .before .before .before .before .before .pre in
-    sym (unbeaten-judged _ _ (p .1 .1 .1 .0) _ _ .breaks (s .before .loop .i) (s .loop-test .taken)
+    sym (every-broken _ _ 0 (s .before .loop .i) (s .loop-test .taken)
     (or-none _ _ (ne-eqb _ _ (c .before .before .if1 .left)) (ap not (sym (c .before .as-specific .ensures) ∙ c .if2 .taken))))
-
-loop-less-2 : tie.Need-loop-less-2 Inv-loop μ-loop
-loop-less-2 c = omega arith
 
 loop-again-2 : tie.Need-loop-again-2 Inv-loop μ-loop
 loop-again-2 c =
@@ -68,9 +47,8 @@ loop-again-2 c =
     (omega arith, below-more _ _ (s .loop .inv .1) (or-right (eqb (getD (a .list .now) (s .loop .i) 0) (a .m)) _ (ap not (sym (c .before .as-specific .ensures) ∙ c .if2 .left))))
 
 returns-2 : tie.Need-returns-2 Inv-loop μ-loop
-returns-2 c =
-    let p = c .before .before .before .before .before .pre in
-    sym (unbeaten-judged _ _ (p .1 .1 .1 .0) _ _ .holds (λ k l. c .before .loop .inv .1 k (omega arith)))
+unfolding unbeaten
+returns-2 c = sym (every-places _ _ 0 (λ k l. c .before .loop .inv .1 k (omega arith)))
 
 pub unbeaten-spec : {M : Type 1} → statement M
 unbeaten-spec =
@@ -78,14 +56,14 @@ unbeaten-spec =
     (tie.spec
     Inv-loop
     μ-loop
-    loop-holds
-    mul-o
-    shared-slice-read-o
-    add-i
-    loop-less
+    (λ c. (omega arith, below-none _))
+    (λ c. omega arith)
+    (λ c. omega arith)
+    (λ c. omega arith)
+    (λ c. omega arith)
     loop-again
     as-specific-requires
     returns
-    loop-less-2
+    (λ c. omega arith)
     loop-again-2
     returns-2)

@@ -6,9 +6,6 @@ use Rattle.layout.proofs.Opened.{placed-of, counts-of, wellformed-of}
 use Rattle.layout.proofs.field.arity.Statement.{statement}
 use Rattle.layout.proofs.field.arity.Tie as tie
 
-argument-count-requires : tie.Need-argument-count-requires
-argument-count-requires c κs = let s = c .before in (placed-of (s .pre .0), s .pre .1)
-
 returns : tie.Need-returns
 unfolding modelOf
 returns c =
@@ -17,4 +14,4 @@ returns c =
     (c .argument-count .ensures, omega (arith, wellformed-of (s .pre .0) .arity-limit (s .args .f) (omega arith)))
 
 pub arity-spec : {M : Type 1} → statement M
-arity-spec = tie.close (tie.spec argument-count-requires returns)
+arity-spec = tie.close (tie.spec (λ c κs. let s = c .before in (placed-of (s .pre .0), s .pre .1)) returns)

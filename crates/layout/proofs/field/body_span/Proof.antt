@@ -7,15 +7,6 @@ use Rattle.layout.proofs.Readings.{body-in}
 use Rattle.layout.proofs.field.body_span.Statement.{statement}
 use Rattle.layout.proofs.field.body_span.Tie as tie
 
-body-offset-requires : tie.Need-body-offset-requires
-body-offset-requires c κs = let s = c .before in (placed-of (s .pre .0), s .pre .1)
-
-add-at : tie.Need-add-at
-add-at c = omega (arith, placed-of (c .before .before .before .pre .0))
-
-body-length-requires : tie.Need-body-length-requires
-body-length-requires c κs = let s = c .before .before .before in (placed-of (s .pre .0), s .pre .1)
-
 returns : tie.Need-returns
 unfolding codeOf
 returns c =
@@ -26,4 +17,4 @@ returns c =
     record { place = cc; size = size; within = omega (arith, body-in (s .pre .0) (s .args .m) (s .pre .1)); code = cc }
 
 pub body-span-spec : {M : Type 1} → statement M
-body-span-spec = tie.close (tie.spec body-offset-requires add-at body-length-requires returns)
+body-span-spec = tie.close (tie.spec (λ c κs. let s = c .before in (placed-of (s .pre .0), s .pre .1)) (λ c. omega (arith, placed-of (c .before .before .before .pre .0))) (λ c κs. let s = c .before .before .before in (placed-of (s .pre .0), s .pre .1)) returns)

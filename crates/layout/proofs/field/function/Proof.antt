@@ -6,9 +6,6 @@ use Rattle.layout.proofs.Opened.{placed-of, counts-of, wellformed-of}
 use Rattle.layout.proofs.field.function.Statement.{statement}
 use Rattle.layout.proofs.field.function.Tie as tie
 
-method-function-requires : tie.Need-method-function-requires
-method-function-requires c κs = let s = c .before in (placed-of (s .pre .0), s .pre .1)
-
 returns : tie.Need-returns
 unfolding modelOf
 returns c =
@@ -17,4 +14,4 @@ returns c =
     (c .method-function .ensures, omega (arith, wellformed-of (s .pre .0) .function-present (s .args .m) (omega arith)))
 
 pub function-spec : {M : Type 1} → statement M
-function-spec = tie.close (tie.spec method-function-requires returns)
+function-spec = tie.close (tie.spec (λ c κs. let s = c .before in (placed-of (s .pre .0), s .pre .1)) returns)

@@ -5,12 +5,9 @@ use Rattle.layout.proofs.Opened.{placed-of}
 use Rattle.layout.proofs.field.is_concrete.Statement.{statement}
 use Rattle.layout.proofs.field.is_concrete.Tie as tie
 
-kind-requires : tie.Need-kind-requires
-kind-requires c κs = let s = c .before in (placed-of (s .pre .0), s .pre .1)
-
 returns : tie.Need-returns
 unfolding modelOf
 returns c = rw (c .kind .ensures)
 
 pub is-concrete-spec : {M : Type 1} → statement M
-is-concrete-spec = tie.close (tie.spec kind-requires returns)
+is-concrete-spec = tie.close (tie.spec (λ c κs. let s = c .before in (placed-of (s .pre .0), s .pre .1)) returns)

@@ -8,12 +8,6 @@ use Rattle.layout.proofs.Readings.{parent-within, parent-read}
 use Rattle.layout.proofs.field.parent.Statement.{statement}
 use Rattle.layout.proofs.field.parent.Tie as tie
 
-list-offset-requires : tie.Need-list-offset-requires
-list-offset-requires c κs = let s = c .before in (placed-of (s .pre .0), s .pre .1 .0)
-
-add-byte-at : tie.Need-add-byte-at
-add-byte-at c = omega (arith, placed-of (c .before .before .before .pre .0))
-
 -- the place lies within the bundle
 within : (c : tie.After-struct-known)
     → let s = c .before .before .before in
@@ -22,12 +16,6 @@ within c =
     let s = c .before .before .before in
     rw (c .before .list-offset .ensures .0) (parent-within (s .pre .0) (s .args .c) (s .args .i) (s .pre .1 .0) (s .pre .1 .1))
 
-add-byte-at-2 : tie.Need-add-byte-at-2
-add-byte-at-2 c = omega (arith, within c, placed-of (c .before .before .before .pre .0))
-
-byte-at-requires : tie.Need-byte-at-requires
-byte-at-requires c κs = within c
-
 returns : tie.Need-returns
 returns c =
     let d = c .before .before in
@@ -35,4 +23,4 @@ returns c =
     rw (c .byte-at .ensures .0, d .list-offset .ensures .0) (parent-read (s .pre .0) (s .args .c) (s .args .i) (s .pre .1 .0) (s .pre .1 .1))
 
 pub parent-spec : {M : Type 1} → statement M
-parent-spec = tie.close (tie.spec list-offset-requires add-byte-at add-byte-at-2 byte-at-requires returns)
+parent-spec = tie.close (tie.spec (λ c κs. let s = c .before in (placed-of (s .pre .0), s .pre .1 .0)) (λ c. omega (arith, placed-of (c .before .before .before .pre .0))) (λ c. omega (arith, within c, placed-of (c .before .before .before .pre .0))) (λ c κs. within c) returns)

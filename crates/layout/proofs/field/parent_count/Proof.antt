@@ -6,9 +6,6 @@ use Rattle.layout.proofs.Readings.{parents-counted, parents-few}
 use Rattle.layout.proofs.field.parent_count.Statement.{statement}
 use Rattle.layout.proofs.field.parent_count.Tie as tie
 
-list-length-requires : tie.Need-list-length-requires
-list-length-requires c κs = let s = c .before in (placed-of (s .pre .0), s .pre .1)
-
 returns : tie.Need-returns
 returns c =
     let s = c .before .before in
@@ -18,4 +15,4 @@ returns c =
     (cc, omega (arith, parents-few o (s .args .c) (s .pre .1), placed-of o))
 
 pub parent-count-spec : {M : Type 1} → statement M
-parent-count-spec = tie.close (tie.spec list-length-requires returns)
+parent-count-spec = tie.close (tie.spec (λ c κs. let s = c .before in (placed-of (s .pre .0), s .pre .1)) returns)

@@ -6,9 +6,6 @@ use Rattle.layout.proofs.Opened.{placed-of, counts-of, wellformed-of}
 use Rattle.layout.proofs.field.result.Statement.{statement}
 use Rattle.layout.proofs.field.result.Tie as tie
 
-method-result-requires : tie.Need-method-result-requires
-method-result-requires c κs = let s = c .before in (placed-of (s .pre .0), s .pre .1)
-
 returns : tie.Need-returns
 unfolding modelOf
 returns c =
@@ -17,4 +14,4 @@ returns c =
     (c .method-result .ensures, omega (arith, wellformed-of (s .pre .0) .result-present (s .args .m) (omega arith)))
 
 pub result-spec : {M : Type 1} → statement M
-result-spec = tie.close (tie.spec method-result-requires returns)
+result-spec = tie.close (tie.spec (λ c κs. let s = c .before in (placed-of (s .pre .0), s .pre .1)) returns)

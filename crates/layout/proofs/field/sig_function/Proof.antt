@@ -6,9 +6,6 @@ use Rattle.layout.proofs.Opened.{placed-of, counts-of, wellformed-of}
 use Rattle.layout.proofs.field.sig_function.Statement.{statement}
 use Rattle.layout.proofs.field.sig_function.Tie as tie
 
-signature-function-requires : tie.Need-signature-function-requires
-signature-function-requires c κs = let s = c .before in (placed-of (s .pre .0), s .pre .1)
-
 returns : tie.Need-returns
 unfolding modelOf
 returns c =
@@ -17,4 +14,4 @@ returns c =
     (c .signature-function .ensures, omega (arith, wellformed-of (s .pre .0) .sig-function (s .args .s) (omega arith)))
 
 pub sig-function-spec : {M : Type 1} → statement M
-sig-function-spec = tie.close (tie.spec signature-function-requires returns)
+sig-function-spec = tie.close (tie.spec (λ c κs. let s = c .before in (placed-of (s .pre .0), s .pre .1)) returns)

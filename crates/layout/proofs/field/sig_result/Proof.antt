@@ -6,9 +6,6 @@ use Rattle.layout.proofs.Opened.{placed-of, counts-of, wellformed-of}
 use Rattle.layout.proofs.field.sig_result.Statement.{statement}
 use Rattle.layout.proofs.field.sig_result.Tie as tie
 
-signature-result-requires : tie.Need-signature-result-requires
-signature-result-requires c κs = let s = c .before in (placed-of (s .pre .0), s .pre .1)
-
 returns : tie.Need-returns
 unfolding modelOf
 returns c =
@@ -17,4 +14,4 @@ returns c =
     (c .signature-result .ensures, omega (arith, wellformed-of (s .pre .0) .sig-result (s .args .s) (omega arith)))
 
 pub sig-result-spec : {M : Type 1} → statement M
-sig-result-spec = tie.close (tie.spec signature-result-requires returns)
+sig-result-spec = tie.close (tie.spec (λ c κs. let s = c .before in (placed-of (s .pre .0), s .pre .1)) returns)

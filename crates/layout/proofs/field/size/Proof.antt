@@ -6,9 +6,6 @@ use Rattle.layout.proofs.Readings.{body-counted}
 use Rattle.layout.proofs.field.size.Statement.{statement}
 use Rattle.layout.proofs.field.size.Tie as tie
 
-body-length-requires : tie.Need-body-length-requires
-body-length-requires c κs = let s = c .before in (placed-of (s .pre .0), s .pre .1)
-
 returns : tie.Need-returns
 returns c =
     let s = c .before .before in
@@ -20,4 +17,4 @@ returns c =
     (omega arith, omega (arith, well .body-some m (omega arith)), omega (arith, well .body-limit m (omega arith)))
 
 pub size-spec : {M : Type 1} → statement M
-size-spec = tie.close (tie.spec body-length-requires returns)
+size-spec = tie.close (tie.spec (λ c κs. let s = c .before in (placed-of (s .pre .0), s .pre .1)) returns)

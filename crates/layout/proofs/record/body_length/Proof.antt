@@ -1,26 +1,10 @@
 -- `layout::record::body_length` meets its contract: the record lies where its section has it.
 -- Assumes nothing.
 use borrow.Author.Needs.{needs}
-use Rattle.rules.specs.Layout.{bodyLength, methodAt}
+use Rattle.rules.specs.Layout.{bodyLength}
 use Rattle.layout.proofs.record.body_length.Statement.{statement}
 use Rattle.layout.proofs.record.body_length.Tie as tie
 
-mul-word-at : tie.Need-mul-word-at
-mul-word-at c = search needs
-
-add-word-at : tie.Need-add-word-at
-add-word-at c = search needs
-
-add-word-at-2 : tie.Need-add-word-at-2
-add-word-at-2 c = search needs
-
-word-at-requires : tie.Need-word-at-requires
-word-at-requires c κs = search needs
-
-returns : tie.Need-returns
-unfolding bodyLength methodAt
-returns c = (cc, search needs)
-
 pub body-length-spec : {M : Type 1} → statement M
-body-length-spec =
-    tie.close (tie.spec mul-word-at add-word-at add-word-at-2 word-at-requires returns)
+unfolding bodyLength
+body-length-spec = tie.close (tie.spec (λ c κs. search needs) (λ c. search needs) (λ c κs. search needs) (λ c. (cc, search needs)))

@@ -1,26 +1,10 @@
 -- `layout::record::signature_result` meets its contract: the record lies where its section has it.
 -- Assumes nothing.
 use borrow.Author.Needs.{needs}
-use Rattle.rules.specs.Layout.{sigResultOf, signatureAt}
+use Rattle.rules.specs.Layout.{sigResultOf}
 use Rattle.layout.proofs.record.signature_result.Statement.{statement}
 use Rattle.layout.proofs.record.signature_result.Tie as tie
 
-mul-byte-at : tie.Need-mul-byte-at
-mul-byte-at c = search needs
-
-add-byte-at : tie.Need-add-byte-at
-add-byte-at c = search needs
-
-add-byte-at-2 : tie.Need-add-byte-at-2
-add-byte-at-2 c = search needs
-
-byte-at-requires : tie.Need-byte-at-requires
-byte-at-requires c κs = search needs
-
-returns : tie.Need-returns
-unfolding sigResultOf signatureAt
-returns c = cc
-
 pub signature-result-spec : {M : Type 1} → statement M
-signature-result-spec =
-    tie.close (tie.spec mul-byte-at add-byte-at add-byte-at-2 byte-at-requires returns)
+unfolding sigResultOf
+signature-result-spec = tie.close (tie.spec (λ c κs. search needs) (λ c. search needs) (λ c κs. search needs) (λ c. cc))

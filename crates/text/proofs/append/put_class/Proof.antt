@@ -8,15 +8,6 @@ use borrow.Author.Needs.{needs}
 use Rattle.text.proofs.append.put_class.Statement.{statement}
 use Rattle.text.proofs.append.put_class.Tie as tie
 
-slice-aggregate-put-field : tie.Need-slice-aggregate-put-field
-slice-aggregate-put-field c = search needs
-
-put-field-requires : tie.Need-put-field-requires
-put-field-requires c κs = search needs
-
-same-length : tie.Need-same-length
-same-length c = search needs
-
 returns : tie.Need-returns
 unfolding field classes
 returns c =
@@ -25,4 +16,4 @@ returns c =
 
 pub put-class-spec : {M : Type 1} → statement M
 put-class-spec =
-    tie.close (tie.spec slice-aggregate-put-field put-field-requires same-length returns)
+    tie.close (tie.spec (λ c. search needs) (λ c κs. search needs) (λ c. search needs) returns)

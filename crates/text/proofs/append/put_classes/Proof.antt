@@ -20,23 +20,11 @@ loop-holds : tie.Need-loop-holds Inv-loop μ-loop
 unfolding classes
 loop-holds c = (omega arith, grown-none 0 (c .before .before .args .text .now) (c .before .before .args .at))
 
-mul-put-class : tie.Need-mul-put-class Inv-loop μ-loop
-mul-put-class c = omega arith
-
-shared-slice-read-put-class : tie.Need-shared-slice-read-put-class Inv-loop μ-loop
-shared-slice-read-put-class c = omega arith
-
 put-class-requires : tie.Need-put-class-requires Inv-loop μ-loop
 put-class-requires c κs =
     let l = c .before .before .before .loop in
     let p = c .before .before .before .before .before .before .pre in
     omega (arith, l .inv .1 .bound, l .inv .1 .same, c .before .before .loop-test .taken, p .0, p .1 .1)
-
-add-i : tie.Need-add-i Inv-loop μ-loop
-add-i c = omega arith
-
-loop-less : tie.Need-loop-less Inv-loop μ-loop
-loop-less c = omega arith
 
 loop-again : tie.Need-loop-again Inv-loop μ-loop
 loop-again c =
@@ -47,9 +35,6 @@ loop-again c =
       grown-as (classes-more (a .args .now) (l .loop .i) (omega (arith, within, l .before .before .before .pre .1 .0)))
           (grown-wider (32 * (l .loop .i + 1)) (omega arith) (grown-both (l .loop .inv .1) (c .before .before .put-class .ensures))),
     )
-
-same-length : tie.Need-same-length Inv-loop μ-loop
-same-length c = c .before .loop .inv .1 .same
 
 returns : tie.Need-returns Inv-loop μ-loop
 returns c =
@@ -65,11 +50,11 @@ put-classes-spec =
     Inv-loop
     μ-loop
     loop-holds
-    mul-put-class
-    shared-slice-read-put-class
+    (λ c. omega arith)
+    (λ c. omega arith)
     put-class-requires
-    add-i
-    loop-less
+    (λ c. omega arith)
+    (λ c. omega arith)
     loop-again
-    same-length
+    (λ c. c .before .loop .inv .1 .same)
     returns)

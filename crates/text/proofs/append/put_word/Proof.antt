@@ -16,25 +16,10 @@ Inv-loop text₀ at word i₀ text i = (i ≤ length word) × Appended i text₀
 abbrev μ-loop : tie.MeasureT-loop
 μ-loop text₀ at word i₀ text i = length word - i
 
-loop-holds : tie.Need-loop-holds Inv-loop μ-loop
-loop-holds c = (omega arith, rw (add-zero (c .args .at)) (grown-none 0 (c .args .text .now) (c .args .at)))
-
-shared-slice-read-text : tie.Need-shared-slice-read-text Inv-loop μ-loop
-shared-slice-read-text c = omega arith
-
-add-text : tie.Need-add-text Inv-loop μ-loop
-add-text c = omega (arith, c .before .before .loop .inv .1 .same)
-
 slice-write-text : tie.Need-slice-write-text Inv-loop μ-loop
 slice-write-text c =
     let s = c .before .before in
     omega (arith, s .before .pre .0, s .before .pre .1, s .loop .inv .1 .same)
-
-add-i : tie.Need-add-i Inv-loop μ-loop
-add-i c = omega arith
-
-loop-less : tie.Need-loop-less Inv-loop μ-loop
-loop-less c = omega arith
 
 loop-again : tie.Need-loop-again Inv-loop μ-loop
 loop-again c =
@@ -43,12 +28,6 @@ loop-again c =
     let l = s .loop in
     let within = c .before .loop-test .taken in
     (omega arith, grown-copied (a .text .now) (l .text) (a .word .now) (a .at) (l .i) (omega (arith, s .before .pre .0, s .before .pre .1, l .inv .1 .same)) (omega arith) (l .inv .1))
-
-add-result : tie.Need-add-result Inv-loop μ-loop
-add-result c = omega (arith, c .before .before .pre .0, c .before .before .pre .1, c .before .loop .inv .0)
-
-same-length : tie.Need-same-length Inv-loop μ-loop
-same-length c = c .before .loop .inv .1 .same
 
 returns : tie.Need-returns Inv-loop μ-loop
 returns c =
@@ -62,13 +41,13 @@ put-word-spec =
     (tie.spec
     Inv-loop
     μ-loop
-    loop-holds
-    shared-slice-read-text
-    add-text
+    (λ c. (omega arith, rw (add-zero (c .args .at)) (grown-none 0 (c .args .text .now) (c .args .at))))
+    (λ c. omega arith)
+    (λ c. omega (arith, c .before .before .loop .inv .1 .same))
     slice-write-text
-    add-i
-    loop-less
+    (λ c. omega arith)
+    (λ c. omega arith)
     loop-again
-    add-result
-    same-length
+    (λ c. omega (arith, c .before .before .pre .0, c .before .before .pre .1, c .before .loop .inv .0))
+    (λ c. c .before .loop .inv .1 .same)
     returns)

@@ -7,18 +7,6 @@ use borrow.Author.Needs.{needs}
 use Rattle.text.proofs.line.coverage_line.Statement.{statement}
 use Rattle.text.proofs.line.coverage_line.Tie as tie
 
-function-of-requires : tie.Need-function-of-requires
-function-of-requires c κs = search needs
-
-arity-requires : tie.Need-arity-requires
-arity-requires c κs = search needs
-
-put-coverage-requires : tie.Need-put-coverage-requires
-put-coverage-requires c κs = search needs
-
-same-length : tie.Need-same-length
-same-length c = search needs
-
 returns : tie.Need-returns
 returns c =
     let t = c .before .before in
@@ -29,4 +17,4 @@ returns c =
 pub coverage-line-spec : {M : Type 1} → statement M
 coverage-line-spec =
     tie.close
-    (tie.spec function-of-requires arity-requires put-coverage-requires same-length returns)
+    (tie.spec (λ c κs. search needs) (λ c κs. search needs) (λ c κs. search needs) (λ c. search needs) returns)

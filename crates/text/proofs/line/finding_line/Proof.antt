@@ -3,8 +3,8 @@
 use native.Mathlib.Omega.{arith}
 use mathlib.Core.Path.{sym, ap, subst}
 use Rattle.rules.specs.Model.{modelOf}
-use Rattle.curiumtoad.specs.declared.check.Finding as finding-type
-use Rattle.curiumtoad.specs.Said.{verdictSaid}
+use Rattle.calls.specs.declared.check.Finding as finding-type
+use Rattle.calls.specs.Said.{verdictSaid}
 use Rattle.text.specs.Text.{verdictLine}
 use Rattle.text.specs.Listed.{NamedBy, refusedWith}
 use Rattle.text.proofs.Growing.{grown-wider, grown-as}
@@ -12,35 +12,11 @@ use borrow.Author.Needs.{needs}
 use Rattle.text.proofs.line.finding_line.Statement.{statement}
 use Rattle.text.proofs.line.finding_line.Tie as tie
 
-enum-known-found : tie.Need-enum-known-found
-enum-known-found c = search needs
-
-layout-line-requires : tie.Need-layout-line-requires
-layout-line-requires c κs = search needs
-
-enum-told : tie.Need-enum-told
-enum-told c = search needs
-
-scratch-line-requires : tie.Need-scratch-line-requires
-scratch-line-requires c κs = search needs
-
-enum-known-found-2 : tie.Need-enum-known-found-2
-enum-known-found-2 c = search needs
-
 coverage-line-requires : tie.Need-coverage-line-requires
 coverage-line-requires c κs =
     let s = c .before .before .before .before .before .before in
     let g = c .before .before .found2 .given in
     (s .pre .0, (subst (NamedBy (s .args .b .functions)) (g .1) (s .pre .1 .0), s .pre .1 .1))
-
-enum-known-found-3 : tie.Need-enum-known-found-3
-enum-known-found-3 c = search needs
-
-body-line-requires : tie.Need-body-line-requires
-body-line-requires c κs = search needs
-
-same-length : tie.Need-same-length
-same-length c = search needs
 
 returns : tie.Need-returns
 unfolding verdictLine
@@ -50,18 +26,12 @@ returns c =
     let M = modelOf (t .before .before .before .before .before .before .before .args .bundle .now) in
     grown-as (ap (λ (x : finding-type.Finding). verdictLine M (verdictSaid (refusedWith x))) (sym (g .1))) (grown-wider 268 (omega arith) (t .layout-line .ensures M))
 
-same-length-2 : tie.Need-same-length-2
-same-length-2 c = search needs
-
 returns-2 : tie.Need-returns-2
 unfolding verdictLine
 returns-2 c =
     let t = c .before .before in
     let M = modelOf (t .before .before .before .before .before .before .args .bundle .now) in
     grown-as (ap (λ (x : finding-type.Finding). verdictLine M (verdictSaid (refusedWith x))) (sym (t .before .before .enum-told .given .1))) (grown-wider 268 (omega arith) (t .scratch-line .ensures M))
-
-same-length-3 : tie.Need-same-length-3
-same-length-3 c = search needs
 
 returns-3 : tie.Need-returns-3
 unfolding verdictLine
@@ -70,9 +40,6 @@ returns-3 c =
     let g = t .before .before .before .found2 .given in
     let M = modelOf (t .before .before .before .before .before .before .before .args .bundle .now) in
     grown-as (ap (λ (x : finding-type.Finding). verdictLine M (verdictSaid (refusedWith x))) (sym (g .1))) (grown-wider 268 (omega arith) (t .coverage-line .ensures))
-
-same-length-4 : tie.Need-same-length-4
-same-length-4 c = search needs
 
 returns-4 : tie.Need-returns-4
 unfolding verdictLine
@@ -86,19 +53,19 @@ pub finding-line-spec : {M : Type 1} → statement M
 finding-line-spec =
     tie.close
     (tie.spec
-    enum-known-found
-    layout-line-requires
-    enum-told
-    scratch-line-requires
-    enum-known-found-2
+    (λ c. search needs)
+    (λ c κs. search needs)
+    (λ c. search needs)
+    (λ c κs. search needs)
+    (λ c. search needs)
     coverage-line-requires
-    enum-known-found-3
-    body-line-requires
-    same-length
+    (λ c. search needs)
+    (λ c κs. search needs)
+    (λ c. search needs)
     returns
-    same-length-2
+    (λ c. search needs)
     returns-2
-    same-length-3
+    (λ c. search needs)
     returns-3
-    same-length-4
+    (λ c. search needs)
     returns-4)

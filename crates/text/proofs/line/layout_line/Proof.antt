@@ -11,24 +11,6 @@ use borrow.Author.Needs.{needs}
 use Rattle.text.proofs.line.layout_line.Statement.{statement}
 use Rattle.text.proofs.line.layout_line.Tie as tie
 
-slice-aggregate-put-field : tie.Need-slice-aggregate-put-field
-slice-aggregate-put-field c = search needs
-
-number-requires : tie.Need-number-requires
-number-requires c κs = search needs
-
-wide-requires : tie.Need-wide-requires
-wide-requires c κs = search needs
-
-put-field-requires : tie.Need-put-field-requires
-put-field-requires c κs = search needs
-
-put-record-requires : tie.Need-put-record-requires
-put-record-requires c κs = search needs
-
-slice-aggregate-put-word : tie.Need-slice-aggregate-put-word
-slice-aggregate-put-word c = search needs
-
 put-word-requires : tie.Need-put-word-requires
 put-word-requires c κs =
     let t = c .before .before .before .before in
@@ -36,9 +18,6 @@ put-word-requires c κs =
     let s = u .before .before .before .before .before .before in
     let named = t .put-record .ensures (modelOf []) in
     (omega arith, omega (arith, s .pre, u .put-field .ensures .bound, u .put-field .ensures .same, named .bound, named .same))
-
-same-length : tie.Need-same-length
-same-length c = search needs
 
 returns : tie.Need-returns
 unfolding field refusedLine
@@ -53,12 +32,12 @@ pub layout-line-spec : {M : Type 1} → statement M
 layout-line-spec =
     tie.close
     (tie.spec
-    slice-aggregate-put-field
-    number-requires
-    wide-requires
-    put-field-requires
-    put-record-requires
-    slice-aggregate-put-word
+    (λ c. search needs)
+    (λ c κs. search needs)
+    (λ c κs. search needs)
+    (λ c κs. search needs)
+    (λ c κs. search needs)
+    (λ c. search needs)
     put-word-requires
-    same-length
+    (λ c. search needs)
     returns)

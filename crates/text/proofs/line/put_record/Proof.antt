@@ -3,8 +3,8 @@
 use Prim.Native.Nat.{_≤_, _<_}
 use native.Mathlib.Omega.{arith}
 use mathlib.Core.Path.{sym}
-use Rattle.layout.specs.Opening.{saidOf}
-use Rattle.curiumtoad.specs.Refusal.{numberOf}
+use Rattle.bundle_rules.specs.Opening.{saidOf}
+use Rattle.calls.specs.Answers.{numberOf}
 use Rattle.text.specs.Text.{field, finding}
 use Rattle.text.proofs.Growing.{grown-none}
 use Rattle.text.proofs.Recorded.{record-none, record-one}
@@ -12,27 +12,12 @@ use borrow.Author.Needs.{needs}
 use Rattle.text.proofs.line.put_record.Statement.{statement}
 use Rattle.text.proofs.line.put_record.Tie as tie
 
-number-requires : tie.Need-number-requires
-number-requires c κs = search needs
-
 returns : tie.Need-returns
 unfolding finding
 returns c M =
     let s = c .before .before .before in
     let few : numberOf (saidOf (s .args .found)) < 4 = omega (arith, c .before .number .ensures, c .if1 .taken) in
     rw (record-none (s .args .found) few) (grown-none 32 (s .args .text .now) (s .args .at))
-
-slice-aggregate-put-field : tie.Need-slice-aggregate-put-field
-slice-aggregate-put-field c = search needs
-
-record-requires : tie.Need-record-requires
-record-requires c κs = search needs
-
-put-field-requires : tie.Need-put-field-requires
-put-field-requires c κs = search needs
-
-same-length : tie.Need-same-length
-same-length c = search needs
 
 returns-2 : tie.Need-returns-2
 unfolding finding field
@@ -46,10 +31,10 @@ pub put-record-spec : {M : Type 1} → statement M
 put-record-spec =
     tie.close
     (tie.spec
-    number-requires
+    (λ c κs. search needs)
     returns
-    slice-aggregate-put-field
-    record-requires
-    put-field-requires
-    same-length
+    (λ c. search needs)
+    (λ c κs. search needs)
+    (λ c κs. search needs)
+    (λ c. search needs)
     returns-2)

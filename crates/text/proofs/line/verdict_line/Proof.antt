@@ -3,8 +3,8 @@
 use native.Mathlib.Omega.{arith}
 use mathlib.Core.Path.{sym, ap, subst}
 use Rattle.rules.specs.Model.{modelOf}
-use Rattle.curiumtoad.specs.declared.check.Verdict as verdict-type
-use Rattle.curiumtoad.specs.Said.{verdictSaid}
+use Rattle.calls.specs.declared.check.Verdict as verdict-type
+use Rattle.calls.specs.Said.{verdictSaid}
 use Rattle.text.specs.Text.{verdictLine}
 use Rattle.text.specs.Listed.{Named}
 use Rattle.text.proofs.Growing.{grown-wider, grown-as}
@@ -12,26 +12,11 @@ use borrow.Author.Needs.{needs}
 use Rattle.text.proofs.line.verdict_line.Statement.{statement}
 use Rattle.text.proofs.line.verdict_line.Tie as tie
 
-enum-told : tie.Need-enum-told
-enum-told c = search needs
-
-slice-aggregate-put-word : tie.Need-slice-aggregate-put-word
-slice-aggregate-put-word c = search needs
-
-put-word-requires : tie.Need-put-word-requires
-put-word-requires c κs = search needs
-
-enum-known-verdict : tie.Need-enum-known-verdict
-enum-known-verdict c = search needs
-
 finding-line-requires : tie.Need-finding-line-requires
 finding-line-requires c κs =
     let s = c .before .before .before .before .before .before in
     let g = c .before .before .verdict .given in
     (s .pre .0, (subst (Named (s .args .b .functions)) (g .1) (s .pre .1 .0), s .pre .1 .1))
-
-same-length : tie.Need-same-length
-same-length c = search needs
 
 returns : tie.Need-returns
 unfolding verdictLine
@@ -39,9 +24,6 @@ returns c =
     let t = c .before .before in
     let M = modelOf (t .before .before .before .before .before .before .before .args .bundle .now) in
     grown-as (ap (λ (x : verdict-type.Verdict). verdictLine M (verdictSaid x)) (sym (t .before .before .before .enum-told .given .1))) (grown-wider 268 (omega arith) (t .put-word .ensures))
-
-same-length-2 : tie.Need-same-length-2
-same-length-2 c = search needs
 
 returns-2 : tie.Need-returns-2
 returns-2 c =
@@ -53,12 +35,12 @@ pub verdict-line-spec : {M : Type 1} → statement M
 verdict-line-spec =
     tie.close
     (tie.spec
-    enum-told
-    slice-aggregate-put-word
-    put-word-requires
-    enum-known-verdict
+    (λ c. search needs)
+    (λ c. search needs)
+    (λ c κs. search needs)
+    (λ c. search needs)
     finding-line-requires
-    same-length
+    (λ c. search needs)
     returns
-    same-length-2
+    (λ c. search needs)
     returns-2)

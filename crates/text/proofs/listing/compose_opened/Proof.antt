@@ -2,23 +2,11 @@
 -- Assumes nothing.
 use native.Mathlib.Omega.{arith}
 use mathlib.Core.Path.{_∙_}
-use Rattle.layout.proofs.Opened.{opened-of}
+use Rattle.bundle_rules.proofs.Opened.{opened-of}
 use Rattle.text.proofs.Composing.{verdict-named, composed-opened}
 use borrow.Author.Needs.{needs}
 use Rattle.text.proofs.listing.compose_opened.Statement.{statement}
 use Rattle.text.proofs.listing.compose_opened.Tie as tie
-
-matrix-requires : tie.Need-matrix-requires
-matrix-requires c κs = search needs
-
-slice-aggregate-check : tie.Need-slice-aggregate-check
-slice-aggregate-check c = search needs
-
-check-requires : tie.Need-check-requires
-check-requires c κs = search needs
-
-counts-line-requires : tie.Need-counts-line-requires
-counts-line-requires c κs = search needs
 
 verdict-line-requires : tie.Need-verdict-line-requires
 verdict-line-requires c κs =
@@ -29,9 +17,6 @@ verdict-line-requires c κs =
       opened-of (s .pre .0),
       (verdict-named (s .pre .0) _ _ (v .before .before .matrix .ensures) (v .check .ensures .0), omega (arith, at .bound, at .same, s .pre .1)),
     )
-
-same-length : tie.Need-same-length
-same-length c = search needs
 
 returns : tie.Need-returns
 returns c =
@@ -47,10 +32,10 @@ pub compose-opened-spec : {M : Type 1} → statement M
 compose-opened-spec =
     tie.close
     (tie.spec
-    matrix-requires
-    slice-aggregate-check
-    check-requires
-    counts-line-requires
+    (λ c κs. search needs)
+    (λ c. search needs)
+    (λ c κs. search needs)
+    (λ c κs. search needs)
     verdict-line-requires
-    same-length
+    (λ c. search needs)
     returns)

@@ -8,15 +8,6 @@ use Rattle.text.proofs.Composing.{listed-short, listed-written}
 use Rattle.text.proofs.listing.listing.Statement.{statement}
 use Rattle.text.proofs.listing.listing.Tie as tie
 
-room-requires : tie.Need-room-requires
-room-requires c κs = search needs
-
-slice-aggregate-compose : tie.Need-slice-aggregate-compose
-slice-aggregate-compose c = search needs
-
-compose-requires : tie.Need-compose-requires
-compose-requires c κs = search needs
-
 returns : tie.Need-returns
 returns c =
     let u = c .before .before in
@@ -27,9 +18,6 @@ returns c =
       listed-short (s .args .bundle .now) _ (s .args .text .now) _ (composed .0) (c .if1 .taken),
     )
 
-array-share-prefix-own : tie.Need-array-share-prefix-own
-array-share-prefix-own c = search needs
-
 slice-aggregate-copy : tie.Need-slice-aggregate-copy
 slice-aggregate-copy c =
     let u = c .before .before .before in
@@ -39,9 +27,6 @@ copy-requires : tie.Need-copy-requires
 copy-requires c κs =
     let u = c .before .before .before .before in
     omega (arith, c .before .before .if1 .left, length-take-le (u .compose .result) (u .compose .last .1 .0) (u .compose .ensures .0 .fits))
-
-same-length : tie.Need-same-length
-same-length c = search needs
 
 returns-2 : tie.Need-returns-2
 returns-2 c =
@@ -55,12 +40,12 @@ pub listing-spec : {M : Type 1} → statement M
 listing-spec =
     tie.close
     (tie.spec
-    room-requires
-    slice-aggregate-compose
-    compose-requires
+    (λ c κs. search needs)
+    (λ c. search needs)
+    (λ c κs. search needs)
     returns
-    array-share-prefix-own
+    (λ c. search needs)
     slice-aggregate-copy
     copy-requires
-    same-length
+    (λ c. search needs)
     returns-2)

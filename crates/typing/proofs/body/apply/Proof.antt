@@ -10,24 +10,6 @@ use borrow.Author.Needs.{needs}
 use Rattle.typing.proofs.body.apply.Statement.{statement}
 use Rattle.typing.proofs.body.apply.Tie as tie
 
-mul-at : tie.Need-mul-at
-mul-at c = search needs
-
-add-left : tie.Need-add-left
-add-left c = search needs
-
-enum-known-i : tie.Need-enum-known-i
-enum-known-i c = search needs
-
-sub-arg-row : tie.Need-sub-arg-row
-sub-arg-row c = search needs
-
-part-arg-row-start : tie.Need-part-arg-row-start
-part-arg-row-start c = search needs
-
-part-arg-row-end : tie.Need-part-arg-row-end
-part-arg-row-end c = search needs
-
 -- the instruction of each arm
 is-arg : (c : tie.After-i) → instr (c .before .before .before .before .before .args .i) ≡ arg (c .i .given .0 .0)
 unfolding instr
@@ -44,49 +26,31 @@ is-send c = ap instr (c .i3 .given .1)
 arg-row-requires : tie.Need-arg-row-requires
 arg-row-requires c κs =
     let g = c .before .before .before .before .before .before .before in
-    let place = operand-arg (g .pre .0) _ (g .pre .1 .1 .0) _ (g .pre .1 .1 .1 .0) _ (is-arg (c .before .before)) in
-    (g .pre .0, (g .pre .1 .0, (g .pre .1 .1 .0, (place, lent-long (g .args .h) (g .args .rows .now) (g .pre .1 .1 .1 .1)))))
-
-same-length : tie.Need-same-length
-same-length c = search needs
+    let place = operand-arg (g .pre .0 .opened) _ (g .pre .1 .0) _ (g .pre .1 .1 .0) _ (is-arg (c .before .before)) in
+    (g .pre .0, (g .pre .1 .0, (place, lent-long (g .args .h) (g .args .rows .now) (g .pre .1 .1 .1))))
 
 returns : tie.Need-returns
 returns c =
     let g = c .before .before .before .before .before .before .before .before .before .before in
     rw (is-arg (c .before .before .before .before .before), lent-back _ _ (g .args .h) (g .args .rows .now) _ (c .before .before .«arg-row» .ensures))
-    (applied-arg _ _ (g .args .rows .now) (g .args .h) (g .pre .1 .1 .1 .1) _)
-
-enum-known-i-2 : tie.Need-enum-known-i-2
-enum-known-i-2 c = search needs
+    (applied-arg _ _ (g .args .rows .now) (g .args .h) (g .pre .1 .1 .1) _)
 
 is-concrete-requires : tie.Need-is-concrete-requires
 is-concrete-requires c κs =
     let g = c .before .before .before .before .before .before in
-    (g .pre .0, operand-new (g .pre .0) _ (g .pre .1 .1 .0) _ (g .pre .1 .1 .1 .0) _ (is-new (c .before)))
-
-sub-class-row : tie.Need-sub-class-row
-sub-class-row c = search needs
-
-part-class-row-start : tie.Need-part-class-row-start
-part-class-row-start c = search needs
-
-part-class-row-end : tie.Need-part-class-row-end
-part-class-row-end c = search needs
+    (g .pre .0 .opened, operand-new (g .pre .0 .opened) _ (g .pre .1 .0) _ (g .pre .1 .1 .0) _ (is-new (c .before)))
 
 class-row-requires : tie.Need-class-row-requires
 class-row-requires c κs =
     let g = c .before .before .before .before .before .before .before .before .before in
-    let class = operand-new (g .pre .0) _ (g .pre .1 .1 .0) _ (g .pre .1 .1 .1 .0) _ (is-new (c .before .before .before .before)) in
-    (g .pre .0, (g .pre .1 .0, (class, lent-long (g .args .h) (g .args .rows .now) (g .pre .1 .1 .1 .1))))
-
-same-length-2 : tie.Need-same-length-2
-same-length-2 c = search needs
+    let class = operand-new (g .pre .0 .opened) _ (g .pre .1 .0) _ (g .pre .1 .1 .0) _ (is-new (c .before .before .before .before)) in
+    (g .pre .0, (class, lent-long (g .args .h) (g .args .rows .now) (g .pre .1 .1 .1)))
 
 returns-2 : tie.Need-returns-2
 returns-2 c =
     let g = c .before .before .before .before .before .before .before .before .before .before .before .before in
     rw (is-new (c .before .before .before .before .before .before .before), lent-back _ _ (g .args .h) (g .args .rows .now) _ (c .before .before .«class-row» .ensures))
-    (applied-new _ _ (g .args .rows .now) (g .args .h) (g .pre .1 .1 .1 .1) _ (sym (c .before .before .before .before .before .«is-concrete» .ensures) ∙ c .before .before .before .before .if1 .taken))
+    (applied-new _ _ (g .args .rows .now) (g .args .h) (g .pre .1 .1 .1) _ (sym (c .before .before .before .before .before .«is-concrete» .ensures) ∙ c .before .before .before .before .if1 .taken))
 
 returns-3 : tie.Need-returns-3
 returns-3 c =
@@ -94,17 +58,11 @@ returns-3 c =
     rw (is-new (c .before .before .before))
     (applied-abstract _ _ (g .args .rows .now) (g .args .h) _ (sym (c .before .«is-concrete» .ensures) ∙ c .if1 .left))
 
-enum-known-i-3 : tie.Need-enum-known-i-3
-enum-known-i-3 c = search needs
-
 apply-send-requires : tie.Need-apply-send-requires
 apply-send-requires c κs =
     let g = c .before .before .before .before .before .before .before in
-    let function = operand-send (g .pre .0) _ (g .pre .1 .1 .0) _ (g .pre .1 .1 .1 .0) _ (is-send (c .before .before)) in
-    (g .pre .0, (g .pre .1 .0, (function, g .pre .1 .1 .1 .1)))
-
-same-length-3 : tie.Need-same-length-3
-same-length-3 c = search needs
+    let function = operand-send (g .pre .0 .opened) _ (g .pre .1 .0) _ (g .pre .1 .1 .0) _ (is-send (c .before .before)) in
+    (g .pre .0, (function, g .pre .1 .1 .1))
 
 returns-4 : tie.Need-returns-4
 returns-4 c = rw (is-send (c .before .before .before .before .before)) (c .before .before .«apply-send» .ensures .in-method _)
@@ -113,25 +71,25 @@ pub apply-spec : {M : Type 1} → statement M
 apply-spec =
     tie.close
     (tie.spec
-    mul-at
-    add-left
-    enum-known-i
-    sub-arg-row
-    part-arg-row-start
-    part-arg-row-end
+    (λ c. search needs)
+    (λ c. search needs)
+    (λ c. search needs)
+    (λ c. search needs)
+    (λ c. search needs)
+    (λ c. search needs)
     arg-row-requires
-    same-length
+    (λ c. search needs)
     returns
-    enum-known-i-2
+    (λ c. search needs)
     is-concrete-requires
-    sub-class-row
-    part-class-row-start
-    part-class-row-end
+    (λ c. search needs)
+    (λ c. search needs)
+    (λ c. search needs)
     class-row-requires
-    same-length-2
+    (λ c. search needs)
     returns-2
     returns-3
-    enum-known-i-3
+    (λ c. search needs)
     apply-send-requires
-    same-length-3
+    (λ c. search needs)
     returns-4)

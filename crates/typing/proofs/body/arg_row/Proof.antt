@@ -13,23 +13,11 @@ use borrow.Author.Needs.{needs}
 use Rattle.typing.proofs.body.arg_row.Statement.{statement}
 use Rattle.typing.proofs.body.arg_row.Tie as tie
 
-specialiser-requires : tie.Need-specialiser-requires
-specialiser-requires c κs = search needs
-
-class-row-requires : tie.Need-class-row-requires
-class-row-requires c κs = search needs
-
-declared-requires : tie.Need-declared-requires
-declared-requires c κs = search needs
-
 join-requires : tie.Need-join-requires
 join-requires c κs =
     let g = c .before .before .before .before .before .before .before .before .before .before in
     let same = c .before .before .before .before .«class-row» .kept .1 .1 .1 .1 .0 in
-    (g .pre .0, (g .pre .1 .0, (c .before .declared .ensures .1, omega (arith, same))))
-
-same-length : tie.Need-same-length
-same-length c = search needs
+    (g .pre .0, (c .before .declared .ensures .1, omega (arith, same)))
 
 returns : tie.Need-returns
 unfolding argType
@@ -44,9 +32,9 @@ pub arg-row-spec : {M : Type 1} → statement M
 arg-row-spec =
     tie.close
     (tie.spec
-    specialiser-requires
-    class-row-requires
-    declared-requires
+    (λ c κs. search needs)
+    (λ c κs. search needs)
+    (λ c κs. search needs)
     join-requires
-    same-length
+    (λ c. search needs)
     returns)

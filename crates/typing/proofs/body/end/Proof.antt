@@ -7,12 +7,6 @@ use borrow.Author.Needs.{needs}
 use Rattle.typing.proofs.body.end.Statement.{statement}
 use Rattle.typing.proofs.body.end.Tie as tie
 
-returns : tie.Need-returns
-returns c = ended-other _ _ _ _ _ (c .if1 .taken)
-
-result-requires : tie.Need-result-requires
-result-requires c κs = search needs
-
 shared-slice-read-if2 : tie.Need-shared-slice-read-if2
 shared-slice-read-if2 c =
     let fit = classes-fit (c .before .before .before .before .before .pre .0) in
@@ -32,4 +26,4 @@ returns-3 c =
     ended-typed _ _ _ _ _ _ (c .before .before .before .if1 .left) (class .0) (omega (arith, class .1)) (c .if2 .left)
 
 pub end-spec : {M : Type 1} → statement M
-end-spec = tie.close (tie.spec returns result-requires shared-slice-read-if2 returns-2 returns-3)
+end-spec = tie.close (tie.spec (λ c. ended-other _ _ _ _ _ (c .if1 .taken)) (λ c κs. search needs) shared-slice-read-if2 returns-2 returns-3)

@@ -18,20 +18,11 @@ Inv-loop bytes b scratch m n rows₀ h₀ at₀ rows h at = (at ≤ n) × (h ≤
 abbrev μ-loop : tie.MeasureT-loop
 μ-loop bytes b scratch m n rows₀ h₀ at₀ rows h at = n - at
 
-size-requires : tie.Need-size-requires Inv-loop μ-loop
-size-requires c κs = search needs
-
-body-rows-requires : tie.Need-body-rows-requires Inv-loop μ-loop
-body-rows-requires c κs = search needs
-
-loop-holds : tie.Need-loop-holds Inv-loop μ-loop
-loop-holds c = (omega arith, omega arith, sym (c .«body-rows» .ensures), reached-none _ _ _)
-
 instruction-requires : tie.Need-instruction-requires Inv-loop μ-loop
 instruction-requires c κs =
     let g = c .before .before .before .before .before .before in
     let n = c .before .before .before .size .ensures in
-    (g .pre .0, (g .pre .1 .1, omega arith))
+    (g .pre .0 .opened, (g .pre .1, omega arith))
 
 slice-aggregate-apply : tie.Need-slice-aggregate-apply Inv-loop μ-loop
 slice-aggregate-apply c =
@@ -43,10 +34,7 @@ apply-requires c κs =
     let s = c .before .before .before in
     let g = s .before .before .before .before .before in
     let n = s .before .before .size .ensures in
-    (g .pre .0, (g .pre .1 .0, (g .pre .1 .1, (c .before .instruction .ensures .1, omega arith))))
-
-enum-known-done : tie.Need-enum-known-done Inv-loop μ-loop
-enum-known-done c = search needs
+    (g .pre .0, (g .pre .1, (c .before .instruction .ensures .1, omega arith)))
 
 -- the instruction that was applied is the body's
 applied : (c : tie.After-apply Inv-loop μ-loop)
@@ -64,15 +52,6 @@ returns c =
     let n = s .before .before .size .ensures in
     reached-break _ _ (s .loop .rows) (s .loop .h) (s .loop .at) (s .loop .inv .3) (omega arith) _ _ (rw (c .before .done .given .1) at (applied a))
 
-enum-known-done-2 : tie.Need-enum-known-done-2 Inv-loop μ-loop
-enum-known-done-2 c = search needs
-
-add-at : tie.Need-add-at Inv-loop μ-loop
-add-at c = search needs
-
-loop-less : tie.Need-loop-less Inv-loop μ-loop
-loop-less c = search needs
-
 loop-again : tie.Need-loop-again Inv-loop μ-loop
 loop-again c =
     let s = c .before .before .before .before .before .before .before .before in
@@ -81,13 +60,10 @@ loop-again c =
     let more = reached-more _ _ (s .loop .rows) (s .loop .h) (s .loop .at) (s .loop .inv .3) (omega arith) _ _ (rw (c .before .done2 .given .1) at (applied a)) in
     (omega arith, omega (arith, more .1), a .apply .kept .1 .1 .1 .1 .1 .0 ∙ s .loop .inv .2, more .0)
 
-slice-aggregate-end : tie.Need-slice-aggregate-end Inv-loop μ-loop
-slice-aggregate-end c = sym (c .before .before .loop .inv .2)
-
 end-requires : tie.Need-end-requires Inv-loop μ-loop
 end-requires c κs =
     let g = c .before .before .before .before .before .before .before in
-    (g .pre .0, (g .pre .1 .1, omega (arith, c .before .before .loop .inv .2)))
+    (g .pre .0 .opened, (g .pre .1, omega (arith, c .before .before .loop .inv .2)))
 
 returns-2 : tie.Need-returns-2 Inv-loop μ-loop
 returns-2 c =
@@ -101,18 +77,18 @@ type-body-spec =
     (tie.spec
     Inv-loop
     μ-loop
-    size-requires
-    body-rows-requires
-    loop-holds
+    (λ c κs. search needs)
+    (λ c κs. search needs)
+    (λ c. (omega arith, omega arith, sym (c .«body-rows» .ensures), reached-none _ _ _))
     instruction-requires
     slice-aggregate-apply
     apply-requires
-    enum-known-done
+    (λ c. search needs)
     returns
-    enum-known-done-2
-    add-at
-    loop-less
+    (λ c. search needs)
+    (λ c. search needs)
+    (λ c. search needs)
     loop-again
-    slice-aggregate-end
+    (λ c. sym (c .before .before .loop .inv .2))
     end-requires
     returns-2)

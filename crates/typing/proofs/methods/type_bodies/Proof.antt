@@ -20,32 +20,14 @@ Inv-loop bytes b scratch methods m₀ m = (m ≤ methods) × ((k : ℕ) → k < 
 abbrev μ-loop : tie.MeasureT-loop
 μ-loop bytes b scratch methods m₀ m = methods - m
 
-loop-holds : tie.Need-loop-holds Inv-loop μ-loop
-loop-holds c = (search needs, below-none _)
-
-type-body-requires : tie.Need-type-body-requires Inv-loop μ-loop
-type-body-requires c κs = search needs
-
-enum-known-typing : tie.Need-enum-known-typing Inv-loop μ-loop
-enum-known-typing c = search needs
-
 returns : tie.Need-returns Inv-loop μ-loop
 unfolding bodiesSaid typingOf
 returns c =
     let t = c .before .before .before in
     let l = t .before .before in
     let g = l .before .before .before in
-    let n = counts-of (g .pre .0) .methods in
+    let n = counts-of (g .pre .opened) .methods in
     method-broken _ _ _ _ (omega (arith, n)) (l .loop .inv .1) (sym (t .type-body .ensures) ∙ ap typingOf (c .before .typing .given .1))
-
-enum-told : tie.Need-enum-told Inv-loop μ-loop
-enum-told c = search needs
-
-add-m : tie.Need-add-m Inv-loop μ-loop
-add-m c = search needs
-
-loop-less : tie.Need-loop-less Inv-loop μ-loop
-loop-less c = search needs
 
 loop-again : tie.Need-loop-again Inv-loop μ-loop
 unfolding typingOf
@@ -58,7 +40,7 @@ returns-2 : tie.Need-returns-2 Inv-loop μ-loop
 unfolding bodiesSaid
 returns-2 c =
     let g = c .before .before .before .before in
-    let n = counts-of (g .pre .0) .methods in
+    let n = counts-of (g .pre .opened) .methods in
     methods-typed _ (λ m h. c .before .loop .inv .1 m (omega (arith, n)))
 
 pub type-bodies-spec : {M : Type 1} → statement M
@@ -67,12 +49,12 @@ type-bodies-spec =
     (tie.spec
     Inv-loop
     μ-loop
-    loop-holds
-    type-body-requires
-    enum-known-typing
+    (λ c. (search needs, below-none _))
+    (λ c κs. search needs)
+    (λ c. search needs)
     returns
-    enum-told
-    add-m
-    loop-less
+    (λ c. search needs)
+    (λ c. search needs)
+    (λ c. search needs)
     loop-again
     returns-2)

@@ -8,16 +8,10 @@ use Rattle.typing.proofs.Rows.{row-empty, row-joined}
 use Rattle.typing.proofs.row.class_row.Statement.{statement}
 use Rattle.typing.proofs.row.class_row.Tie as tie
 
-clear-requires : tie.Need-clear-requires
-clear-requires c κs = search needs
-
 join-requires : tie.Need-join-requires
 join-requires c κs =
     let g = c .before .before .before .before .before .before .before .before in
-    (g .pre .0, (g .pre .1 .0, (g .pre .1 .1 .0, omega (arith, c .before .before .before .clear .kept))))
-
-same-length : tie.Need-same-length
-same-length c = search needs
+    (g .pre .0, (g .pre .1 .0, omega (arith, c .before .before .before .clear .kept)))
 
 returns : tie.Need-returns
 returns c =
@@ -25,4 +19,4 @@ returns c =
     c .before .before .join .ensures ∙ row-joined _ [] _ _ _ (c .before .before .before .before .before .before .clear .ensures ∙ row-empty _ _)
 
 pub class-row-spec : {M : Type 1} → statement M
-class-row-spec = tie.close (tie.spec clear-requires join-requires same-length returns)
+class-row-spec = tie.close (tie.spec (λ c κs. search needs) join-requires (λ c. search needs) returns)

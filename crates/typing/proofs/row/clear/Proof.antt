@@ -16,30 +16,15 @@ Inv-loop row₀ k₀ row k = Writing noByte row₀ row k
 abbrev μ-loop : tie.MeasureT-loop
 μ-loop row₀ k₀ row k = rowBytes - k
 
-loop-holds : tie.Need-loop-holds Inv-loop μ-loop
-loop-holds c = writing-none _ _
-
 slice-write-row : tie.Need-slice-write-row Inv-loop μ-loop
 slice-write-row c =
     let s = c .before in
     let same = writing-length _ _ (s .before .pre) (s .loop .inv) in
     omega arith
 
-add-k : tie.Need-add-k Inv-loop μ-loop
-add-k c = search needs
-
-loop-less : tie.Need-loop-less Inv-loop μ-loop
-loop-less c = search needs
-
 loop-again : tie.Need-loop-again Inv-loop μ-loop
 unfolding noByte
 loop-again c = let s = c .before in writing-more _ _ (s .before .pre) (s .loop .inv) (search needs) 0 refl
-
-same-length : tie.Need-same-length Inv-loop μ-loop
-same-length c = let s = c .before in writing-length _ _ (s .before .pre) (s .loop .inv)
-
-returns : tie.Need-returns Inv-loop μ-loop
-returns c = let s = c .before in writing-all _ _ (s .loop .inv) (search needs)
 
 pub clear-spec : {M : Type 1} → statement M
 clear-spec =
@@ -47,10 +32,10 @@ clear-spec =
     (tie.spec
     Inv-loop
     μ-loop
-    loop-holds
+    (λ c. writing-none _ _)
     slice-write-row
-    add-k
-    loop-less
+    (λ c. search needs)
+    (λ c. search needs)
     loop-again
-    same-length
-    returns)
+    (λ c. let s = c .before in writing-length _ _ (s .before .pre) (s .loop .inv))
+    (λ c. let s = c .before in writing-all _ _ (s .loop .inv) (search needs)))

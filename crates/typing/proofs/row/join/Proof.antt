@@ -17,44 +17,29 @@ Inv-loop bytes b scratch c row₀ k₀ row k = Writing (joinedByte (modelOf byte
 abbrev μ-loop : tie.MeasureT-loop
 μ-loop bytes b scratch c row₀ k₀ row k = rowBytes - k
 
-loop-holds : tie.Need-loop-holds Inv-loop μ-loop
-loop-holds c = writing-none _ _
-
 slice-read-join-byte : tie.Need-slice-read-join-byte Inv-loop μ-loop
 slice-read-join-byte c =
     let s = c .before .before in
-    let same = writing-length _ _ (s .before .before .before .before .pre .1 .1 .1) (s .loop .inv) in
+    let same = writing-length _ _ (s .before .before .before .before .pre .1 .1) (s .loop .inv) in
     omega arith
-
-join-byte-requires : tie.Need-join-byte-requires Inv-loop μ-loop
-join-byte-requires c κs = let p = c .before .before .before .before .before .before .pre in (p .0, (p .1 .0, p .1 .1 .0))
 
 slice-write-row : tie.Need-slice-write-row Inv-loop μ-loop
 slice-write-row c =
     let s = c .before .before .before in
-    let same = writing-length _ _ (s .before .before .before .before .pre .1 .1 .1) (s .loop .inv) in
+    let same = writing-length _ _ (s .before .before .before .before .pre .1 .1) (s .loop .inv) in
     omega arith
-
-add-k : tie.Need-add-k Inv-loop μ-loop
-add-k c = search needs
-
-loop-less : tie.Need-loop-less Inv-loop μ-loop
-loop-less c = search needs
 
 loop-again : tie.Need-loop-again Inv-loop μ-loop
 unfolding joinedByte
 loop-again c =
     let s = c .before .before .before in
     let g = s .before .before .before .before in
-    let long = g .pre .1 .1 .1 in
+    let long = g .pre .1 .1 in
     writing-more _ _ long (s .loop .inv) (search needs) _
     (c .join-byte .ensures ∙ ap (λ (old : ℕ). joined (modelOf (g .args .bytes .now)) (g .args .c) (s .loop .k) old) (writing-next _ _ long (s .loop .inv)))
 
 same-length : tie.Need-same-length Inv-loop μ-loop
-same-length c = let s = c .before in writing-length _ _ (s .before .before .before .before .pre .1 .1 .1) (s .loop .inv)
-
-returns : tie.Need-returns Inv-loop μ-loop
-returns c = let s = c .before in writing-all _ _ (s .loop .inv) (search needs)
+same-length c = let s = c .before in writing-length _ _ (s .before .before .before .before .pre .1 .1) (s .loop .inv)
 
 pub join-spec : {M : Type 1} → statement M
 join-spec =
@@ -62,12 +47,12 @@ join-spec =
     (tie.spec
     Inv-loop
     μ-loop
-    loop-holds
+    (λ c. writing-none _ _)
     slice-read-join-byte
-    join-byte-requires
+    (λ c κs. let p = c .before .before .before .before .before .before .pre in (p .0, p .1 .0))
     slice-write-row
-    add-k
-    loop-less
+    (λ c. search needs)
+    (λ c. search needs)
     loop-again
     same-length
-    returns)
+    (λ c. let s = c .before in writing-all _ _ (s .loop .inv) (search needs)))

@@ -14,12 +14,6 @@ returns c =
     let a = c .before .before .before .args in
     sym (ap (λ (t : Bool). copiedIf t (a .from .now) (a .row .now)) (not-true (a .found) (c .if1 .taken)))
 
-copy-requires : tie.Need-copy-requires
-copy-requires c κs = search needs
-
-same-length : tie.Need-same-length
-same-length c = search needs
-
 returns-2 : tie.Need-returns-2
 unfolding copiedIf
 returns-2 c =
@@ -28,4 +22,4 @@ returns-2 c =
     c .before .before .copy .ensures ∙ sym (ap (λ (t : Bool). copiedIf t (a .from .now) (a .row .now)) (not-false (a .found) (s .if1 .left)))
 
 pub copy-if-spec : {M : Type 1} → statement M
-copy-if-spec = tie.close (tie.spec returns copy-requires same-length returns-2)
+copy-if-spec = tie.close (tie.spec returns (λ c κs. search needs) (λ c. search needs) returns-2)

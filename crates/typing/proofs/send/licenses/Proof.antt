@@ -18,21 +18,6 @@ Inv-loop bytes b rows f n s i₀ i = (i ≤ n) × Passed (modelOf bytes) rows f 
 abbrev μ-loop : tie.MeasureT-loop
 μ-loop bytes b rows f n s i₀ i = n - i
 
-sig-function-requires : tie.Need-sig-function-requires Inv-loop μ-loop
-sig-function-requires c κs = search needs
-
-returns : tie.Need-returns Inv-loop μ-loop
-returns c = let s = c .before in licensed-other _ _ _ _ (λ e. c .if1 .taken (s .«sig-function» .ensures .0 ∙ e))
-
-loop-holds : tie.Need-loop-holds Inv-loop μ-loop
-loop-holds c = (omega arith, passed-none _ _ _ _)
-
-sig-arg-requires : tie.Need-sig-arg-requires Inv-loop μ-loop
-sig-arg-requires c κs = search needs
-
-mul-if2 : tie.Need-mul-if2 Inv-loop μ-loop
-mul-if2 c = search needs
-
 add-if2 : tie.Need-add-if2 Inv-loop μ-loop
 add-if2 c = let fit = classes-fit (c .before .before .before .before .before .before .before .pre .0) in search needs
 
@@ -61,12 +46,6 @@ returns-2 c =
     let arg = c .before .before .«sig-arg» in
     licensed-broken _ _ (g .args .f) (g .args .s) (s .loop .i) (arg .result) (omega arith) (arg .ensures .0) (omega arith) (sized s) (c .if2 .taken)
 
-add-i : tie.Need-add-i Inv-loop μ-loop
-add-i c = search needs
-
-loop-less : tie.Need-loop-less Inv-loop μ-loop
-loop-less c = search needs
-
 loop-again : tie.Need-loop-again Inv-loop μ-loop
 loop-again c =
     let s = c .before .before .before .before in
@@ -88,15 +67,15 @@ licenses-spec =
     (tie.spec
     Inv-loop
     μ-loop
-    sig-function-requires
-    returns
-    loop-holds
-    sig-arg-requires
-    mul-if2
+    (λ c κs. search needs)
+    (λ c. let s = c .before in licensed-other _ _ _ _ (λ e. c .if1 .taken (s .«sig-function» .ensures .0 ∙ e)))
+    (λ c. (omega arith, passed-none _ _ _ _))
+    (λ c κs. search needs)
+    (λ c. search needs)
     add-if2
     shared-slice-read-if2
     returns-2
-    add-i
-    loop-less
+    (λ c. search needs)
+    (λ c. search needs)
     loop-again
     returns-3)

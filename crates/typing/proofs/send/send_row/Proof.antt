@@ -16,27 +16,18 @@ Inv-loop bytes b scratch rows f row₀ n found₀ s₀ row found s = (s ≤ b .s
 abbrev μ-loop : tie.MeasureT-loop
 μ-loop bytes b scratch rows f row₀ n found₀ s₀ row found s = b .signatures - s
 
-arity-requires : tie.Need-arity-requires Inv-loop μ-loop
-arity-requires c κs = search needs
-
-clear-requires : tie.Need-clear-requires Inv-loop μ-loop
-clear-requires c κs = search needs
-
-loop-holds : tie.Need-loop-holds Inv-loop μ-loop
-loop-holds c = (omega arith, sending-none _ _ _ _ _ (c .before .before .clear .ensures))
-
 licenses-requires : tie.Need-licenses-requires Inv-loop μ-loop
 licenses-requires c κs =
     let s = c .before .before in
     let g = s .before .before .before .before .before .before .before .before .before .before in
     let n = s .before .before .before .before .before .arity in
-    let counts = counts-of (g .pre .0) in
-    (g .pre .0, (omega arith, (n .ensures .0, (n .ensures .1, omega arith))))
+    let counts = counts-of (g .pre .0 .opened) in
+    (g .pre .0 .opened, (omega arith, (n .ensures .0, (n .ensures .1, omega arith))))
 
 sig-result-requires : tie.Need-sig-result-requires Inv-loop μ-loop
 sig-result-requires c κs =
     let g = c .before .before .before .before .before .before .before .before .before .before .before .before .before .before in
-    (g .pre .0, omega arith)
+    (g .pre .0 .opened, omega arith)
 
 join-requires : tie.Need-join-requires Inv-loop μ-loop
 join-requires c κs =
@@ -44,13 +35,7 @@ join-requires c κs =
     let g = s .before .before .before .before .before .before .before .before .before .before in
     let whole = s .loop .inv .1 .long in
     let cleared = s .before .before .before .clear .kept in
-    (g .pre .0, (g .pre .1 .0, (c .before .«sig-result» .ensures .1, omega (arith, cleared))))
-
-add-s : tie.Need-add-s Inv-loop μ-loop
-add-s c = search needs
-
-loop-less : tie.Need-loop-less Inv-loop μ-loop
-loop-less c = search needs
+    (g .pre .0, (c .before .«sig-result» .ensures .1, omega (arith, cleared)))
 
 loop-again : tie.Need-loop-again Inv-loop μ-loop
 loop-again c =
@@ -61,12 +46,6 @@ loop-again c =
       sending-hit _ _ _ _ (s .loop .row) _ (s .loop .found) (s .loop .s) (result .result) (s .loop .inv .1) (rw (license .if2 .taken) at (license .before .licenses .ensures))
           (result .ensures .0) (c .before .before .join .kept .1 .1 .1 .1 .0) (c .before .before .join .ensures),
     )
-
-add-s-2 : tie.Need-add-s-2 Inv-loop μ-loop
-add-s-2 c = search needs
-
-loop-less-2 : tie.Need-loop-less-2 Inv-loop μ-loop
-loop-less-2 c = search needs
 
 loop-again-2 : tie.Need-loop-again-2 Inv-loop μ-loop
 loop-again-2 c =
@@ -82,7 +61,7 @@ returns : tie.Need-returns Inv-loop μ-loop
 returns c =
     let s = c .before .before in
     let g = s .before .before .before .before .before .before .before .before .before .before in
-    let counts = counts-of (g .pre .0) in
+    let counts = counts-of (g .pre .0 .opened) in
     let all : s .loop .s ≡ modelOf (g .args .bytes .now) .signatures = omega arith in
     sending-all _ _ _ _ _ _ _ (s .before .before .before .clear .ensures) (rw all at (s .loop .inv .1))
 
@@ -92,17 +71,17 @@ send-row-spec =
     (tie.spec
     Inv-loop
     μ-loop
-    arity-requires
-    clear-requires
-    loop-holds
+    (λ c κs. search needs)
+    (λ c κs. search needs)
+    (λ c. (omega arith, sending-none _ _ _ _ _ (c .before .before .clear .ensures)))
     licenses-requires
     sig-result-requires
     join-requires
-    add-s
-    loop-less
+    (λ c. search needs)
+    (λ c. search needs)
     loop-again
-    add-s-2
-    loop-less-2
+    (λ c. search needs)
+    (λ c. search needs)
     loop-again-2
     same-length
     returns)

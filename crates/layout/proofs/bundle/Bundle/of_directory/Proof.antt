@@ -7,27 +7,6 @@ use Rattle.rules.specs.Layout.{classCount, functionCount, signatureCount, metho
 use Rattle.layout.proofs.bundle.Bundle.of_directory.Statement.{statement}
 use Rattle.layout.proofs.bundle.Bundle.of_directory.Tie as tie
 
-counted-requires : tie.Need-counted-requires
-counted-requires c κs = search needs
-
-counted-requires-2 : tie.Need-counted-requires-2
-counted-requires-2 c κs = search needs
-
-counted-requires-3 : tie.Need-counted-requires-3
-counted-requires-3 c κs = search needs
-
-counted-requires-4 : tie.Need-counted-requires-4
-counted-requires-4 c κs = search needs
-
-counted-requires-5 : tie.Need-counted-requires-5
-counted-requires-5 c κs = search needs
-
-counted-requires-6 : tie.Need-counted-requires-6
-counted-requires-6 c κs = search needs
-
-new-requires : tie.Need-new-requires
-new-requires c κs = search needs
-
 returns : tie.Need-returns
 unfolding classCount functionCount signatureCount methodCount
 returns c =
@@ -58,11 +37,11 @@ pub of-directory-spec : {M : Type 1} → statement M
 of-directory-spec =
     tie.close
     (tie.spec
-    counted-requires
-    counted-requires-2
-    counted-requires-3
-    counted-requires-4
-    counted-requires-5
-    counted-requires-6
-    new-requires
+    (λ c κs. search needs)
+    (λ c κs. search needs)
+    (λ c κs. search needs)
+    (λ c κs. search needs)
+    (λ c κs. search needs)
+    (λ c κs. search needs)
+    (λ c κs. search needs)
     returns)

@@ -1,0 +1,28 @@
+-- `call_cases::run_all` is safe and ends: space keeps its length, and the measure is the number of turns that are left. Assumes nothing.
+use borrow.Author.Needs.{needs}
+use mathlib.Core.Path.{_≡_}
+use lib.ListN.{length}
+use Rattle.call_cases.proofs.run_all.Statement.{statement}
+use Rattle.call_cases.proofs.run_all.Tie as tie
+
+abbrev Inv-loop : tie.InvT-loop
+Inv-loop space₀ unwritten matrix₀ scratch₀ tallies₀ turns₀ space matrix scratch tallies turns = length space ≡ length space₀
+
+abbrev μ-loop : tie.MeasureT-loop
+μ-loop space₀ unwritten matrix₀ scratch₀ tallies₀ turns₀ space matrix scratch tallies turns = turns
+
+pub run-all-spec : {M : Type 1} → statement M
+run-all-spec =
+    tie.close
+    (tie.spec
+    Inv-loop
+    μ-loop
+    (λ c. search needs)
+    (λ c κs. search needs)
+    (λ c. search needs)
+    (λ c. search needs)
+    (λ c. search needs)
+    (λ c. search needs)
+    (λ c. search needs)
+    (λ c. search needs)
+    (λ c. search needs))

@@ -1,0 +1,83 @@
+// The calls, as the blocks of the input give them. The codes of the entry points are those of docs/CASES.md.
+use crate::block::NUMBERS;
+use crate::readings::instruction_reply;
+use crate::readings::reading_reply;
+use crate::readings::view_reply;
+use crate::reply::Reply;
+use crate::reply::of_accepted;
+use crate::reply::of_ancestry;
+use crate::reply::of_listing;
+use crate::reply::of_lookup;
+use crate::reply::of_opening;
+use crate::reply::of_run;
+use crate::reply::of_send_type;
+use crate::reply::of_verdict;
+use crate::reply::of_witness;
+use curiumtoad::ancestry::ancestry;
+use curiumtoad::check::check;
+use curiumtoad::lookup::lookup;
+use curiumtoad::opening::open;
+use curiumtoad::run::run;
+use curiumtoad::run_accepted::run_accepted;
+use curiumtoad::send_type::send_type;
+use curiumtoad::witness::witness;
+use text::listing::listing;
+
+// The code of an entry point, how much is lent, and what is asked: an entry point takes as many of the numbers as it asks for.
+pub(crate) struct Call {
+    pub(crate) entry: usize,
+    pub(crate) scratch_len: usize,
+    n0: usize,
+    n1: usize,
+    n2: usize,
+    n3: usize,
+    count: u32,
+    pub(crate) row_len: usize,
+}
+
+impl Call {
+    pub(crate) fn of_numbers(numbers: [usize; NUMBERS]) -> Call {
+        Call {
+            entry: numbers[0],
+            scratch_len: numbers[1],
+            n0: numbers[2],
+            n1: numbers[3],
+            n2: numbers[4],
+            n3: numbers[5],
+            count: (numbers[6] % 4294967296) as u32,
+            row_len: numbers[7],
+        }
+    }
+
+    // The entry points that take no scratch.
+    fn plain_reply(self, bundle: &[u8], row: &mut [u8]) -> Reply {
+        let entry = self.entry;
+        match entry {
+            0 => of_opening(open(bundle)),
+            1 => view_reply(bundle, row, self.n0),
+            2 => instruction_reply(bundle, self.n0, self.n1),
+            3 => reading_reply(bundle, self.n0),
+            11 => of_listing(listing(bundle, row)),
+            _ => Reply::alone(Reply::UNKNOWN),
+        }
+    }
+
+    pub(crate) fn reply(self, bundle: &[u8], scratch: &mut [u8], row: &mut [u8]) -> Reply {
+        let entry = self.entry;
+        let n0 = self.n0;
+        let n1 = self.n1;
+        let n2 = self.n2;
+        let n3 = self.n3;
+        let count = self.count;
+        match entry {
+            4 => of_ancestry(ancestry(bundle, scratch, n0, n1)),
+            5 => of_lookup(lookup(bundle, scratch, n0, n1, n2, n3)),
+            6 => of_send_type(send_type(bundle, scratch, row, n0, n1, n2, n3)),
+            7 => of_verdict(check(bundle, scratch)),
+            8 => of_witness(witness(bundle, scratch, n0, n1, n2, n3)),
+            9 => of_run(run(bundle, scratch, n0, n1, n2, n3, count)),
+            10 => of_accepted(run_accepted(bundle, scratch, n0, n1, n2, n3, count)),
+            _ => self.plain_reply(bundle, row),
+        }
+    }
+}

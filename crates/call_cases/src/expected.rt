@@ -1,0 +1,54 @@
+// What a call has to answer and to leave.
+use crate::block::NUMBERS;
+use crate::block::read_first;
+use crate::reply::Reply;
+
+// The reply, whether the matrix is in the scratch, and what is written to the row: bytes of the input, then zeros up to a place.
+pub(crate) struct Expected {
+    pub(crate) reply: Reply,
+    pub(crate) fills: bool,
+    written: usize,
+    zeros_to: usize,
+}
+
+fn clear(row: &mut [u8], from: usize, to: usize) {
+    let mut k = from;
+    while k < row.len() {
+        if k >= to {
+            return;
+        }
+        row[k] = 0;
+        k += 1;
+    }
+}
+
+impl Expected {
+    pub(crate) fn of_numbers(numbers: [usize; NUMBERS]) -> Expected {
+        let reply = Reply {
+            number: numbers[0],
+            beside: numbers[2],
+            values: [
+                numbers[3],
+                numbers[4],
+                numbers[5],
+                numbers[6],
+                numbers[7],
+                numbers[8],
+            ],
+        };
+        Expected {
+            reply,
+            fills: numbers[1] == 1,
+            written: numbers[9],
+            zeros_to: numbers[10],
+        }
+    }
+
+    // Makes an unwritten row the expected one, and answers whether the input had all of it.
+    pub(crate) fn read_row(self, row: &mut [u8]) -> bool {
+        let written = self.written;
+        let is_whole = read_first(row, written);
+        clear(row, written, self.zeros_to);
+        is_whole
+    }
+}

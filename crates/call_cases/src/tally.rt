@@ -1,0 +1,70 @@
+// How many calls there were of each entry point, and how many of them differed.
+use crate::block::print;
+use crate::block::print_number;
+ghost use Prim.Native.Nat.{_<_};
+
+// The entry points, in the order of their codes.
+const ENTRIES: usize = 12;
+
+// The calls of each entry point, the differing ones of each, and all calls.
+pub(crate) const TALLIES: usize = 25;
+
+const ALL: usize = 24;
+
+fn print_entry(entry: usize) {
+    match entry {
+        0 => print(b"opening"),
+        1 => print(b"view"),
+        2 => print(b"instruction"),
+        3 => print(b"reading"),
+        4 => print(b"ancestry"),
+        5 => print(b"lookup"),
+        6 => print(b"send type"),
+        7 => print(b"check"),
+        8 => print(b"witness"),
+        9 => print(b"run"),
+        10 => print(b"accepted run"),
+        11 => print(b"listing"),
+        _ => print(b"unknown"),
+    }
+}
+
+// The start of the line for a call that differs, which is the next to be counted.
+pub(crate) fn print_differs(tallies: &[u64; TALLIES], entry: usize) {
+    print(b"differs");
+    print_number(tallies[ALL]);
+    print(b" ");
+    print_entry(entry);
+    print(b" got");
+}
+
+fn add_one(tallies: &mut [u64; TALLIES], k: usize)
+    requires { ⌜ k < 25 ⌝ }
+{
+    // No run comes near the end of these counts.
+    tallies[k] = std::num::wrapping_add_u64(tallies[k], 1);
+}
+
+pub(crate) fn count(tallies: &mut [u64; TALLIES], entry: usize, is_same: bool) {
+    add_one(tallies, ALL);
+    if entry >= ENTRIES {
+        return;
+    }
+    add_one(tallies, entry);
+    if !is_same {
+        add_one(tallies, ENTRIES + entry);
+    }
+}
+
+pub(crate) fn print_tallies(tallies: &[u64; TALLIES]) {
+    let mut entry = 0;
+    while entry < ENTRIES {
+        print_entry(entry);
+        print(b" cases");
+        print_number(tallies[entry]);
+        print(b" differing");
+        print_number(tallies[ENTRIES + entry]);
+        print(b"\n");
+        entry += 1;
+    }
+}

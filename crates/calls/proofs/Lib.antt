@@ -1,0 +1,4 @@
+pub mod Sent
+pub mod Signatures
+pub mod Answered
+pub mod Verdicts

@@ -1,0 +1,5 @@
+pub mod Answers
+pub mod Send
+pub mod Covered
+pub mod Said
+pub mod Checked

@@ -1,0 +1,21 @@
+-- A send as a caller passes it.
+-- Assumes nothing.
+use Prim.Native.Nat.{ℕ, _≤_}
+use mathlib.Core.Path.{_≡_}
+use mathlib.Core.Bool.{Bool, cond}
+use mathlib.Core.List.{List}
+use lib.Dec.{ltb, eqb}
+use lib.ListN.{length, take}
+use Rattle.rules.specs.Model.{Model}
+use Rattle.rules.specs.Calls.{used}
+use Rattle.dispatch.specs.Places.{Arguments}
+
+-- `tupleRule` of one place: a class where it is used, else 0
+unfoldable pub fitsPlace : ℕ → ℕ → ℕ → ℕ → Bool
+fitsPlace classes n i x = cond (ltb i n) (ltb x classes) (eqb x 0)
+
+-- the first n of these classes are the arguments that a send of f passes
+pub record Passes (M : Model) (f : ℕ) (tuple : List ℕ) (n : ℕ) (classes : List ℕ) : Type 0 where
+  pub within : n ≤ length classes
+  pub same : take n classes ≡ used M f tuple
+  pub arguments : Arguments M f (take n classes)

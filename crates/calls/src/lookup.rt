@@ -1,0 +1,39 @@
+// Lookup: which method a send finds.
+use crate::refusal::Refusal;
+use crate::send::classes_of;
+use dispatch::lookup::lookup;
+use dispatch::select::Found;
+use dispatch::send::Send;
+use layout::bundle::Bundle;
+ghost use mathlib.Core.Path.{_≡_};
+ghost use Rattle.rules.specs.Model.{modelOf};
+ghost use Rattle.rules.specs.Calls.{lookupIn};
+ghost use Rattle.dispatch.specs.Prepared.{Prepared};
+ghost use Rattle.dispatch.specs.Send.{tupleOf};
+ghost use Rattle.calls.specs.Said.{lookupSaid};
+
+// The method found; 10; 11 with the two rivals; or a refusal.
+pub enum LookupAnswer {
+    Method(usize),
+    Missing(Send),
+    Ambiguous(Send, usize, usize),
+    Refused(Refusal),
+}
+
+// What a send, of abstract classes too, finds.
+pub fn lookup_in(bundle: &[u8], b: Bundle, scratch: &[u8], send: Send) -> LookupAnswer
+    requires { ⌜ Prepared (now bundle) b (now scratch) ⌝ }
+    ensures { λ r. ⌜ lookupSaid r ≡ lookupIn (send .function) (tupleOf send) (modelOf (now (bundle .entry))) ⌝ }
+{
+    let args = classes_of(bundle, b, send);
+    if !args.is_send {
+        return LookupAnswer::Refused(Refusal::Absent);
+    }
+    let n = args.count;
+    let classes = args.classes;
+    match lookup(bundle, b, scratch, send.function, &classes[..n]) {
+        Found::Method(m) => LookupAnswer::Method(m),
+        Found::Missing => LookupAnswer::Missing(send),
+        Found::Ambiguous(m, o) => LookupAnswer::Ambiguous(send, m, o),
+    }
+}

@@ -1,0 +1,108 @@
+// A send as a caller passes it: any function number, and any number for each place.
+use dispatch::send::Send;
+use layout::bundle::Bundle;
+use layout::bytes::byte_at;
+use layout::field::arity;
+use layout::field::is_concrete;
+ghost use mathlib.Core.Path.{_≡_};
+ghost use mathlib.Core.Bool.{true};
+ghost use Prim.Native.Nat.{_<_};
+ghost use Rattle.rules.specs.Bounded.{every};
+ghost use Rattle.rules.specs.Layout.{tupleRule};
+ghost use Rattle.rules.specs.Model.{modelOf, present};
+ghost use Rattle.rules.specs.Coverage.{concreteClass};
+ghost use Rattle.rules.specs.Calls.{sendRule, matrixStride};
+ghost use Rattle.layout.specs.Opened.{Opened};
+ghost use Rattle.dispatch.specs.Send.{tupleOf};
+ghost use Rattle.calls.specs.Send.{fitsPlace, Passes};
+
+// Whether a number is a class at a used place, the first n, or 0 at another.
+fn fits(classes: usize, n: usize, i: usize, x: usize) -> bool
+    ensures { λ r. ⌜ r ≡ fitsPlace classes n i x ⌝ }
+{
+    if i < n {
+        return x < classes;
+    }
+    x == 0
+}
+
+// Whether the numbers are classes at the first n places, and 0 at the others.
+fn is_tuple(classes: usize, n: usize, places: &[usize]) -> bool
+    ensures { λ r. ⌜ r ≡ tupleRule classes n (now (places .entry)) ⌝ }
+{
+    let mut i = 0;
+    while i < places.len() {
+        if !fits(classes, n, i, places[i]) {
+            return false;
+        }
+        i += 1;
+    }
+    true
+}
+
+// Whether the function and the classes at its places are there, and unused places hold 0.
+fn is_send(bundle: &[u8], b: Bundle, send: Send) -> bool
+    requires { ⌜ Opened (now bundle) b ⌝ }
+    ensures { λ r. ⌜ r ≡ sendRule (modelOf (now (bundle .entry))) (send .function) (tupleOf send) ⌝ }
+{
+    if b.functions <= send.function {
+        return false;
+    }
+    let places = [send.a0, send.a1, send.a2];
+    is_tuple(b.classes, arity(bundle, b, send.function), &places)
+}
+
+// The places of a send as bytes: classes have numbers below 128.
+fn class_bytes(send: Send) -> [u8; Bundle::PLACES]
+    requires { ⌜ send .a0 < matrixStride ⌝ }
+    requires { ⌜ send .a1 < matrixStride ⌝ }
+    requires { ⌜ send .a2 < matrixStride ⌝ }
+    ensures { λ r. ⌜ r ≡ tupleOf send ⌝ }
+{
+    [send.a0 as u8, send.a1 as u8, send.a2 as u8]
+}
+
+// Whether a send keeps its rule; where it does, the classes at its places, of which the first `count` are used.
+pub(crate) struct Passed {
+    pub is_send: bool,
+    pub count: usize,
+    pub classes: [u8; Bundle::PLACES],
+}
+
+// The classes that a send passes.
+pub(crate) fn classes_of(bundle: &[u8], b: Bundle, send: Send) -> Passed
+    requires { ⌜ Opened (now bundle) b ⌝ }
+    ensures { λ r. ⌜ r .«is_send» ≡ sendRule (modelOf (now (bundle .entry))) (send .function) (tupleOf send) ⌝ }
+    ensures { λ r. ⌜ (r .«is_send» ≡ true → Passes (modelOf (now (bundle .entry))) (send .function) (tupleOf send) (r .count) (r .classes)) ⌝ }
+{
+    if !is_send(bundle, b, send) {
+        return Passed {
+            is_send: false,
+            count: 0,
+            classes: [0; Bundle::PLACES],
+        };
+    }
+    let count = arity(bundle, b, send.function);
+    let classes = class_bytes(send);
+    Passed {
+        is_send: true,
+        count,
+        classes,
+    }
+}
+
+// Whether all of these classes are concrete.
+pub(crate) fn all_concrete(bundle: &[u8], b: Bundle, args: &[u8]) -> bool
+    requires { ⌜ Opened (now bundle) b ⌝ }
+    requires { ⌜ present (modelOf (now bundle)) (now args) ≡ true ⌝ }
+    ensures { λ r. ⌜ r ≡ every (concreteClass (modelOf (now (bundle .entry)))) (now (args .entry)) ⌝ }
+{
+    let mut i = 0;
+    while i < args.len() {
+        if !is_concrete(bundle, b, byte_at(args, i)) {
+            return false;
+        }
+        i += 1;
+    }
+    true
+}

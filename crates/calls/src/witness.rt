@@ -1,0 +1,127 @@
+// The witness check: the coverage rule for one signature and one tuple.
+use crate::covered::covers;
+use crate::refusal::Refusal;
+use crate::send::all_concrete;
+use crate::send::classes_of;
+use coverage::judge::Judgement;
+use coverage::judge::judge;
+use dispatch::send::Send;
+use layout::bundle::Bundle;
+use layout::field::sig_function;
+ghost use mathlib.Core.Path.{_≡_};
+ghost use mathlib.Core.Bool.{_&&_};
+ghost use mathlib.Core.List.{[], _∷_};
+ghost use Prim.Native.Nat.{_<_};
+ghost use Rattle.rules.specs.Bounded.{every};
+ghost use Rattle.rules.specs.Model.{modelOf};
+ghost use Rattle.rules.specs.Coverage.{covers, concreteClass};
+ghost use Rattle.rules.specs.Calls.{witnessIn};
+ghost use Rattle.dispatch.specs.Prepared.{Prepared};
+ghost use Rattle.dispatch.specs.Places.{Arguments};
+ghost use Rattle.dispatch.specs.Send.{tupleOf, sendValues};
+ghost use Rattle.coverage.specs.Judgements.{judgementOf};
+ghost use Rattle.calls.specs.Said.{coverageValues, ruleSaid, witnessSaid};
+
+// Numbers 10 to 13: the signature, the send, and the method or methods that the reason names.
+pub enum CoverageFinding {
+    Missing(usize, Send),
+    Ambiguous(usize, Send, usize, usize),
+    Declared(usize, Send, usize),
+    Result(usize, Send, usize),
+}
+
+// The rule holds for the send, or fails.
+pub(crate) enum RuleAnswer {
+    Holds,
+    Fails(CoverageFinding),
+}
+
+// The rule holds, fails by 10 to 13, or a refusal.
+pub enum WitnessAnswer {
+    Holds,
+    Fails(CoverageFinding),
+    Refused(Refusal),
+}
+
+// What a judgement of a send under a signature comes to.
+pub(crate) fn rule_answer(signature: usize, send: Send, judgement: Judgement) -> RuleAnswer
+    ensures { λ r. ⌜ ruleSaid r ≡ coverageValues signature (sendValues send) (judgementOf judgement) ⌝ }
+{
+    match judgement {
+        Judgement::Holds(_) => RuleAnswer::Holds,
+        Judgement::Missing => RuleAnswer::Fails(CoverageFinding::Missing(signature, send)),
+        Judgement::Ambiguous(m, o) => {
+            RuleAnswer::Fails(CoverageFinding::Ambiguous(signature, send, m, o))
+        }
+        Judgement::Declared(m) => RuleAnswer::Fails(CoverageFinding::Declared(signature, send, m)),
+        Judgement::Result(m) => RuleAnswer::Fails(CoverageFinding::Result(signature, send, m)),
+    }
+}
+
+// Whether argument classes of the signature's function are concrete, and the signature covers them.
+fn is_witness(bundle: &[u8], b: Bundle, scratch: &[u8], signature: usize, args: &[u8]) -> bool
+    requires { ⌜ Prepared (now bundle) b (now scratch) ⌝ }
+    requires { ⌜ signature < b .signatures ⌝ }
+    requires { ⌜ Arguments (modelOf (now bundle)) (modelOf (now bundle) .sigFunction signature) (now args) ⌝ }
+    ensures { λ r. ⌜ r ≡ (every (concreteClass (modelOf (now (bundle .entry)))) (now (args .entry)) && covers (modelOf (now (bundle .entry))) signature (now (args .entry))) ⌝ }
+{
+    if !all_concrete(bundle, b, args) {
+        return false;
+    }
+    covers(bundle, b, scratch, signature, args)
+}
+
+// The rule's answer for a signature that is there and a send of its function.
+fn witness_send(
+    bundle: &[u8],
+    b: Bundle,
+    scratch: &[u8],
+    signature: usize,
+    send: Send,
+) -> WitnessAnswer
+    requires { ⌜ Prepared (now bundle) b (now scratch) ⌝ }
+    requires { ⌜ signature < b .signatures ⌝ }
+    requires { ⌜ send .function ≡ modelOf (now bundle) .sigFunction signature ⌝ }
+    ensures { λ r. ⌜ witnessSaid r ≡ witnessIn signature (tupleOf send) (modelOf (now (bundle .entry))) ⌝ }
+{
+    let args = classes_of(bundle, b, send);
+    if !args.is_send {
+        return WitnessAnswer::Refused(Refusal::Absent);
+    }
+    let n = args.count;
+    let classes = args.classes;
+    if !is_witness(bundle, b, scratch, signature, &classes[..n]) {
+        return WitnessAnswer::Refused(Refusal::Absent);
+    }
+    let judgement = judge(bundle, b, scratch, signature, &classes[..n]);
+    match rule_answer(signature, send, judgement) {
+        RuleAnswer::Holds => WitnessAnswer::Holds,
+        RuleAnswer::Fails(found) => WitnessAnswer::Fails(found),
+    }
+}
+
+// The coverage rule's answer for a signature and a tuple of concrete classes that it covers.
+pub fn witness_in(
+    bundle: &[u8],
+    b: Bundle,
+    scratch: &[u8],
+    signature: usize,
+    a0: usize,
+    a1: usize,
+    a2: usize,
+) -> WitnessAnswer
+    requires { ⌜ Prepared (now bundle) b (now scratch) ⌝ }
+    ensures { λ r. ⌜ witnessSaid r ≡ witnessIn signature (a0 ∷ a1 ∷ a2 ∷ []) (modelOf (now (bundle .entry))) ⌝ }
+{
+    if b.signatures <= signature {
+        return WitnessAnswer::Refused(Refusal::Absent);
+    }
+    let function = sig_function(bundle, b, signature);
+    let send = Send {
+        function,
+        a0,
+        a1,
+        a2,
+    };
+    witness_send(bundle, b, scratch, signature, send)
+}

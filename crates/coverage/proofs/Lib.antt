@@ -1,0 +1,5 @@
+pub mod Judging
+pub mod Dominating
+pub mod Narrowing
+pub mod Searching
+pub mod Violations

@@ -1,0 +1,72 @@
+-- Violations as the search finds them: that of one signature, and the first of all.
+-- Assumes nothing.
+use Prim.Native.Nat.{ℕ, _<_}
+use mathlib.Core.Path.{_≡_, refl, sym, ap, _∙_}
+use mathlib.Core.Bool.{true, false, false≢true}
+use mathlib.Core.List.{List, [], _∷_}
+use mathlib.Core.Option.{Option, none, some, Option·map}
+use Rattle.rules.specs.Layout.{padded}
+use Rattle.rules.specs.Model.{Model}
+use Rattle.rules.specs.Coverage.{Judgement, judge, brokenTuple, isSome, brokenSignature}
+use Rattle.rules.proofs.Lists.{none-lowest, some-lowest, lowest-some}
+use Rattle.coverage.specs.Search.{brokenCompletion, Violation, violation, violationIn, violationAt, firstViolation}
+
+-- what a search with no place filled finds is the signature's
+pub tuple-none : (M : Model) (s : ℕ) → brokenCompletion M s [] (M .sigArgs s) ≡ none → none ≡ violationIn M s
+unfolding violationIn brokenCompletion brokenTuple
+tuple-none M s e = sym (ap (Option·map (violation M s)) e)
+
+pub tuple-some : (M : Model) (s f : ℕ) (t after xs : List ℕ) (j : Judgement) → brokenCompletion M s [] (M .sigArgs s) ≡ some t → after ≡ t
+    → f ≡ M .sigFunction s → xs ≡ f ∷ padded after → j ≡ judge M s after → some (record { signature = s; send = xs; judgement = j }) ≡ violationIn M s
+unfolding violationIn violation brokenCompletion brokenTuple
+tuple-some M s f t after xs j e g k q d = rw (e, q, d, g, k)
+
+-- a signature with no violation is not broken; one with a violation, with none before it broken, is the lowest
+pub signature-holds : (M : Model) (s : ℕ) → none ≡ violationIn M s → isSome (brokenTuple M s) ≡ false
+unfolding violationIn isSome
+signature-holds M s e = go (brokenTuple M s) e
+  where
+    go : (t : Option (List ℕ)) → none ≡ Option·map (violation M s) t → isSome t ≡ false
+    go none q = refl
+    go (some t) q = cc
+
+pub signature-breaks : (M : Model) (s : ℕ) (v : Violation) → s < M .signatures → ((i : ℕ) → i < s → isSome (brokenTuple M i) ≡ false)
+    → some v ≡ violationIn M s → some v ≡ firstViolation M
+unfolding violationIn firstViolation violationAt brokenSignature isSome
+signature-breaks M s v h low e = rw (some-lowest (λ s. isSome (brokenTuple M s)) (M .signatures) s h (go (brokenTuple M s) e) low) e
+  where
+    go : (t : Option (List ℕ)) → some v ≡ Option·map (violation M s) t → isSome t ≡ true
+    go none q = cc
+    go (some t) q = refl
+
+pub signatures-hold : (M : Model) → ((i : ℕ) → i < M .signatures → isSome (brokenTuple M i) ≡ false) → none ≡ firstViolation M
+unfolding firstViolation violationAt brokenSignature
+signatures-hold M h = rw (none-lowest (λ s. isSome (brokenTuple M s)) (M .signatures) h)
+
+-- what the answer of a search over all signatures says of the rules' own
+module _ (M : Model) where
+  pub none-broken : none ≡ firstViolation M → brokenSignature M ≡ none
+  unfolding firstViolation violationAt brokenSignature
+  none-broken e = go (brokenSignature M) refl e
+    where
+      go : (o : Option ℕ) → brokenSignature M ≡ o → none ≡ violationAt M o → o ≡ none
+      go none q d = refl
+      go (some s) q d =
+          absurd (false≢true (sym (signature-holds M s d) ∙ lowest-some (λ s. isSome (brokenTuple M s)) (M .signatures) s q .1))
+
+  pub lowest-broken : (v : Violation) → some v ≡ firstViolation M
+      → (brokenSignature M ≡ some (v .signature))
+      × ((t : List ℕ) × (brokenTuple M (v .signature) ≡ some t) × (v .send ≡ M .sigFunction (v .signature) ∷ padded t) × (v .judgement ≡ judge M (v .signature) t))
+  unfolding firstViolation violationAt violationIn violation
+  lowest-broken v e = go (brokenSignature M) refl e
+    where
+      at : (s : ℕ) (o : Option (List ℕ)) → brokenTuple M s ≡ o → some v ≡ Option·map (violation M s) o
+          → (v .signature ≡ s) × ((t : List ℕ) × (brokenTuple M s ≡ some t) × (v .send ≡ M .sigFunction s ∷ padded t) × (v .judgement ≡ judge M s t))
+      at s none q d = absurd (false≢true (cc))
+      at s (some t) q d = let same : v ≡ violation M s t = cc in rw same (refl, (t, q, refl, refl))
+
+      go : (o : Option ℕ) → brokenSignature M ≡ o → some v ≡ violationAt M o
+          → (o ≡ some (v .signature))
+          × ((t : List ℕ) × (brokenTuple M (v .signature) ≡ some t) × (v .send ≡ M .sigFunction (v .signature) ∷ padded t) × (v .judgement ≡ judge M (v .signature) t))
+      go none q d = absurd (false≢true (cc))
+      go (some s) q d = let r = at s (brokenTuple M s) refl d in rw (r .0) (refl, r .1)

@@ -1,0 +1,3 @@
+pub mod Judgements
+pub mod Dominance
+pub mod Search

@@ -1,0 +1,47 @@
+-- Lists of methods of one function, by position and by membership.
+-- Assumes nothing.
+use Prim.Native.Nat.{ℕ, _<_}
+use native.Mathlib.Omega.{arith}
+use mathlib.Core.Path.{_≡_, refl, sym, ap, _∙_}
+use mathlib.Core.Bool.{true}
+use mathlib.Core.List.{List, [], _∷_, List·Memᴰ}
+use lib.Dec.{ltb, eqb}
+use lib.ListN.{length, getD}
+use borrow.Author.Tests.{ltb-true, lt-ltb, eqb-true, eq-eqb}
+use Rattle.rules.specs.Model.{Model}
+use Rattle.rules.specs.Lookup.{applicable, missing, select}
+use Rattle.rules.proofs.Lists.{and-left, and-right, and-both, every-mem, every-from, getD-mem}
+use Rattle.rules.proofs.Lookup.{applicable-candidate}
+use Rattle.rules.proofs.Selection.{MethodOf}
+use Rattle.dispatch.specs.Places.{OfArity}
+use Rattle.dispatch.specs.Listed.{methodOf, Listed, listed, Candidates}
+
+pub each-method : {M : Model} {f : ℕ} {ms : List ℕ} → Listed M f ms → (n : ℕ) → List·Memᴰ n ms → MethodOf M f n
+unfolding methodOf
+each-method {M} {f} {ms} (listed e) n h =
+    let t = every-mem (methodOf M f) ms e h in
+    record {
+      bound = ltb-true n (M .methods) (and-left (ltb n (M .methods)) (eqb (M .function n) f) t);
+      ofFunction = eqb-true (M .function n) f (and-right (ltb n (M .methods)) (eqb (M .function n) f) t);
+    }
+
+pub candidate-at : {M : Model} {f n : ℕ} {ms : List ℕ} → Candidates M f n ms → (i : ℕ) → i < length ms → OfArity M n (getD ms i 0)
+candidate-at {M} {f} {n} {ms} c i l =
+    let m = each-method (c .methods) (getD ms i 0) (getD-mem ms i 0 l) in
+    record { bound = m .bound; arity = c .arity ∙ sym (ap (M .arity) (m .ofFunction)) }
+
+-- the applicable methods of a function are methods of it
+pub applicable-listed : (M : Model) (f : ℕ) (args : List ℕ) → Listed M f (applicable M f args)
+unfolding methodOf
+applicable-listed M f args = listed (every-from (methodOf M f) (applicable M f args) one)
+  where
+    one : (m : ℕ) → List·Memᴰ m (applicable M f args) → methodOf M f m ≡ true
+    one m h =
+        let c = applicable-candidate M f args h in
+        and-both (ltb m (M .methods)) (eqb (M .function m) f) (lt-ltb m (M .methods) (c .bound)) (eq-eqb (M .function m) f (c .ofFunction))
+
+-- none to choose from
+pub empty-selected : (M : Model) (ms : List ℕ) → length ms ≡ 0 → select M ms ≡ missing
+unfolding select
+empty-selected M [] e = refl
+empty-selected M (m ∷ ms) e = absurd (omega (arith, e))

@@ -1,0 +1,124 @@
+-- Laws of `specs/Tests`: a rule on a list or a part of the bundle holds exactly when its test passes at every place.
+-- Assumes nothing.
+use Prim.Native.Nat.{ℕ, zero, suc, _+_, _*_, _-_, _<_, _≤_}
+use native.Mathlib.Omega.{arith}
+use mathlib.Core.Path.{_≡_, refl, sym, ap, subst, _∙_}
+use mathlib.Core.Bool.{Bool, true, false, not, _||_, true≢false, and-assoc}
+use mathlib.Core.List.{List, [], _∷_}
+use lib.Dec.{eqb, ltb, leb·suc-suc}
+use lib.ListN.{length, getD}
+use borrow.Author.Tests.{lt-ltb, le-ltb, ne-eqb, not-true, not-false}
+use Rattle.rules.specs.Bounded.{upto, every, matching}
+use Rattle.rules.specs.Bytes.{part}
+use Rattle.rules.specs.Layout.{tupleRule, risesAbove, rises, everyPair, instructionRule, twins, twinRule}
+use Rattle.rules.proofs.Lists.{any-none, any-from, matching-from, matching-at, upto-below, below-upto}
+use Rattle.rules.proofs.Places.{part-at, part-length}
+use Rattle.rules.proofs.Decides.{Decides, refuted, decides-none, decides-next, decides-agree, decides-both, every-decides}
+use Rattle.record_rules.specs.Tests.{from, parentsRule, parentRule, placeRule, pairRule}
+
+-- a list whose elements are each above the one before
+above-decides : (x : ℕ) (xs : List ℕ) → Decides (risesAbove x xs) (λ i. ltb (getD (x ∷ xs) i 0) (getD xs i 0)) (length xs)
+unfolding risesAbove
+above-decides x [] = decides-none (λ i. ltb (getD (x ∷ []) i 0) (getD [] i 0))
+above-decides x (y ∷ ys) =
+    decides-next (λ i. ltb (getD (x ∷ y ∷ ys) i 0) (getD (y ∷ ys) i 0)) (ltb x y) (risesAbove y ys) (length ys) refl (above-decides y ys)
+
+rises-decides : (xs : List ℕ) → Decides (rises xs) (λ i. eqb i 0 || ltb (getD xs (i - 1) 0) (getD xs i 0)) (length xs)
+unfolding rises
+rises-decides [] = decides-none (λ i. eqb i 0 || ltb (getD [] (i - 1) 0) (getD [] i 0))
+rises-decides (x ∷ xs) =
+    decides-next (λ i. eqb i 0 || ltb (getD (x ∷ xs) (i - 1) 0) (getD (x ∷ xs) i 0)) true (risesAbove x xs) (length xs) refl
+    (decides-agree (λ i. ltb (getD (x ∷ xs) i 0) (getD xs i 0))
+    (λ i. eqb (suc i) 0 || ltb (getD (x ∷ xs) (suc i - 1) 0) (getD xs i 0)) (length xs) next (above-decides x xs))
+  where
+    next : (i : ℕ) → i < length xs
+        → ltb (getD (x ∷ xs) i 0) (getD xs i 0) ≡ (eqb (suc i) 0 || ltb (getD (x ∷ xs) (suc i - 1) 0) (getD xs i 0))
+    next i l =
+        let before : suc i - 1 ≡ i = omega arith in
+        rw (ne-eqb (suc i) 0 (λ q. omega arith), before)
+
+pub tuple-decides : (classes n : ℕ) (xs : List ℕ) → Decides (tupleRule classes n xs) (placeRule (λ i. getD xs i 0) classes n) (length xs)
+unfolding tupleRule placeRule every
+tuple-decides classes zero xs =
+    decides-agree (λ i. eqb (getD xs i 0) 0) (placeRule (λ i. getD xs i 0) classes 0) (length xs) (λ i l. rw (le-ltb i 0 (omega arith)))
+    (every-decides (λ c. eqb c 0) xs)
+tuple-decides classes (suc n) [] = decides-none (placeRule (λ i. getD [] i 0) classes (suc n))
+tuple-decides classes (suc n) (x ∷ xs) =
+    rw and-assoc
+    (decides-next (placeRule (λ i. getD (x ∷ xs) i 0) classes (suc n)) (ltb x classes) (tupleRule classes n xs) (length xs)
+    (rw (lt-ltb 0 (suc n) (omega arith)))
+    (decides-agree (placeRule (λ i. getD xs i 0) classes n) (λ i. placeRule (λ i. getD (x ∷ xs) i 0) classes (suc n) (suc i)) (length xs)
+    (λ i l. rw (leb·suc-suc (suc i) n)) (tuple-decides classes n xs)))
+
+pairs-decides : (p : ℕ → ℕ → Bool) (k : ℕ) (xs : List ℕ) → length xs ≡ 2 * k → Decides (everyPair p xs) (pairRule (λ i. getD xs i 0) p) k
+unfolding everyPair
+pairs-decides p zero [] e = decides-none (pairRule (λ i. getD [] i 0) p)
+pairs-decides p zero (x ∷ xs) e = absurd (omega (arith, e))
+pairs-decides p (suc k) [] e = absurd (omega (arith, e))
+pairs-decides p (suc k) (x ∷ []) e = absurd (omega (arith, e))
+pairs-decides p (suc k) (x ∷ y ∷ rest) e =
+    decides-next (pairRule (λ i. getD (x ∷ y ∷ rest) i 0) p) (p x y) (everyPair p rest) k refl
+    (decides-agree (pairRule (λ i. getD rest i 0) p) (λ i. pairRule (λ i. getD (x ∷ y ∷ rest) i 0) p (suc i)) k next
+    (pairs-decides p k rest (omega (arith, e))))
+  where
+    next : (i : ℕ) → i < k → pairRule (λ i. getD rest i 0) p i ≡ pairRule (λ i. getD (x ∷ y ∷ rest) i 0) p (suc i)
+    next i l =
+        let even : 2 * suc i ≡ suc (suc (2 * i)) = omega arith in
+        let odd : 2 * suc i + 1 ≡ suc (suc (2 * i + 1)) = omega arith in
+        rw (odd, even)
+
+module _ (b : List ℕ) (at : ℕ) where
+  pub parents-part : (c n : ℕ) → at + n ≤ length b → Decides (parentsRule c (part b at n)) (parentRule (from b at) c) n
+  unfolding parentRule
+  parents-part c n h =
+      let xs = part b at n in
+      decides-agree (parentRule (λ i. getD xs i 0) c) (parentRule (from b at) c) n
+      (λ i l. rw (part-at b at n i l, part-at b at n (i - 1) (omega arith)))
+      (subst (Decides (parentsRule c xs) (parentRule (λ i. getD xs i 0) c)) (part-length b at n h)
+      (decides-both (λ i. ltb (getD xs i 0) c) (λ i. eqb i 0 || ltb (getD xs (i - 1) 0) (getD xs i 0)) (length xs)
+      (every-decides (λ p. ltb p c) xs) (rises-decides xs)))
+
+  pub tuple-part : (classes k n : ℕ) → at + n ≤ length b → Decides (tupleRule classes k (part b at n)) (placeRule (from b at) classes k) n
+  unfolding placeRule
+  tuple-part classes k n h =
+      let xs = part b at n in
+      decides-agree (placeRule (λ i. getD xs i 0) classes k) (placeRule (from b at) classes k) n (λ i l. rw (part-at b at n i l))
+      (subst (Decides (tupleRule classes k xs) (placeRule (λ i. getD xs i 0) classes k)) (part-length b at n h) (tuple-decides classes k xs))
+
+  pub pairs-part : (p : ℕ → ℕ → Bool) (k : ℕ) → at + 2 * k ≤ length b → Decides (everyPair p (part b at (2 * k))) (pairRule (from b at) p) k
+  pairs-part p k h =
+      let xs = part b at (2 * k) in
+      decides-agree (pairRule (λ i. getD xs i 0) p) (pairRule (from b at) p) k
+      (λ i l. rw (part-at b at (2 * k) (2 * i) (omega arith), part-at b at (2 * k) (2 * i + 1) (omega arith)))
+      (pairs-decides p k xs (part-length b at (2 * k) h))
+
+  pub matching-part : (other n : ℕ) → at + n ≤ length b → other + n ≤ length b
+      → Decides (matching eqb (part b at n) (part b other n)) (λ i. eqb (from b at i) (from b other i)) n
+  matching-part other n h k =
+      let xs = part b at n in
+      let ys = part b other n in
+      let same : length xs ≡ length ys = part-length b at n h ∙ sym (part-length b other n k) in
+      let long : length xs ≡ n = part-length b at n h in
+      decides-agree (λ i. eqb (getD xs i 0) (getD ys i 0)) (λ i. eqb (from b at i) (from b other i)) n
+      (λ i l. rw (part-at b at n i l, part-at b other n i l))
+      (record {
+        holds = λ all. matching-from eqb xs ys 0 0 same (λ i l. all i (omega arith));
+        breaks = λ i l e. refuted (matching eqb xs ys) (λ t. true≢false (sym (matching-at eqb xs ys 0 0 t i (omega arith)) ∙ e));
+      })
+
+pub unknown-operation : (arguments classes functions operation operand : ℕ) → (operation ≡ 0 → ⊥) → (operation ≡ 1 → ⊥) → (operation ≡ 2 → ⊥)
+    → instructionRule arguments classes functions operation operand ≡ false
+unfolding instructionRule
+unknown-operation arguments classes functions zero operand a b c = absurd (a refl)
+unknown-operation arguments classes functions (suc zero) operand a b c = absurd (b refl)
+unknown-operation arguments classes functions (suc (suc zero)) operand a b c = absurd (c refl)
+unknown-operation arguments classes functions (suc (suc (suc n))) operand a b c = refl
+
+-- a twin among the methods before
+pub twin-decides : (b : List ℕ) (m : ℕ) → Decides (twinRule b m) (λ n. not (twins b m n)) m
+unfolding twinRule
+twin-decides b m =
+    record {
+      holds = λ h. ap not (any-none (twins b m) (upto m) (λ n r. not-true (twins b m n) (h n (upto-below m r))));
+      breaks = λ n l e. ap not (any-from (twins b m) (upto m) (below-upto m n l) (not-false (twins b m n) e));
+    }

@@ -1,0 +1,42 @@
+-- What each search of the code asks of one number: the parts of the rules that are about one place of a list.
+-- Assumes nothing.
+use Prim.Native.Nat.{ℕ, suc, _+_, _-_, _*_, _%_}
+use mathlib.Core.Bool.{Bool, cond, _&&_, _||_}
+use mathlib.Core.List.{List}
+use lib.Dec.{eqb, ltb, leb}
+use Rattle.rules.specs.Bounded.{every}
+use Rattle.rules.specs.Bytes.{byte}
+use Rattle.rules.specs.Layout.{extent, codeSection, rises, sequenceRule, bodyOffset, bodyLength, methodCount}
+
+-- the bytes from a place on, by number
+abbrev pub from : List ℕ → ℕ → ℕ → ℕ
+from b at i = byte b (at + i)
+
+-- `sequenceRule` of one record, where those before it end at `before`
+unfoldable pub inSequence : ℕ → ℕ → ℕ → ℕ → ℕ → ℕ → Bool
+inSequence start size before n end k =
+    eqb start before && leb (start + size) end && (ltb (suc k) n || eqb (start + size) end)
+
+-- a parent is lower than its class, and above the parent before it (M 2.4)
+abbrev pub parentsRule : ℕ → List ℕ → Bool
+parentsRule c xs = every (λ p. ltb p c) xs && rises xs
+
+-- the same of parent i: it is lower than the class, and above the parent before it
+unfoldable pub parentRule : (ℕ → ℕ) → ℕ → ℕ → Bool
+parentRule f c i = ltb (f i) c && (eqb i 0 || ltb (f (i - 1)) (f i))
+
+-- `tupleRule` of place i: it names a class, or is unused and 0
+unfoldable pub placeRule : (ℕ → ℕ) → ℕ → ℕ → ℕ → Bool
+placeRule f classes n i = cond (ltb i n) (ltb (f i) classes) (eqb (f i) 0)
+
+-- what `methodRule` says of the body alone
+abbrev pub bodyRule : List ℕ → ℕ → Bool
+bodyRule b m =
+    sequenceRule (bodyOffset b) (bodyLength b) (methodCount b) (extent b codeSection) m
+    && leb 2 (bodyLength b m)
+    && leb (bodyLength b m) 128
+    && eqb (bodyLength b m % 2) 0
+
+-- `everyPair` of pair i
+abbrev pub pairRule : (ℕ → ℕ) → (ℕ → ℕ → Bool) → ℕ → Bool
+pairRule f p i = p (f (2 * i)) (f (2 * i + 1))

@@ -1,0 +1,75 @@
+// The rule of a body's instructions.
+use layout::bundle::Bundle;
+use layout::bytes::byte_at;
+use layout::record::argument_count;
+use layout::record::body_length;
+use layout::record::body_offset;
+use layout::record::method_function;
+ghost use mathlib.Core.Path.{_≡_};
+ghost use mathlib.Core.Bool.{not, true};
+ghost use Prim.Native.Nat.{_+_, _*_, _<_, _≤_};
+ghost use lib.ListN.{length};
+ghost use Rattle.rules.specs.Bytes.{part};
+ghost use Rattle.rules.specs.Layout.{instructionRule, everyPair, methodRule, codeRule};
+ghost use Rattle.layout.specs.Tables.{Placed};
+ghost use Rattle.record_rules.specs.Tests.{from, pairRule};
+
+// Whether the operation is unknown, or its operand is no argument place, no class or no function.
+fn instruction_breaks(
+    arguments: usize,
+    classes: usize,
+    functions: usize,
+    operation: usize,
+    operand: usize,
+) -> bool
+    ensures { λ r. ⌜ r ≡ not (instructionRule arguments classes functions operation operand) ⌝ }
+{
+    if operation == 0 {
+        return arguments <= operand;
+    }
+    if operation == 1 {
+        return classes <= operand;
+    }
+    if operation == 2 {
+        return functions <= operand;
+    }
+    true
+}
+
+// Whether instruction i of the code from byte `at` on breaks the rule.
+fn pair_breaks(bytes: &[u8], b: Bundle, arguments: usize, at: usize, i: usize) -> bool
+    requires { ⌜ at + 2 * i + 1 < length (now bytes) ⌝ }
+    ensures { λ r. ⌜ r ≡ not (pairRule (from (now (bytes .entry)) at) (instructionRule arguments (b .classes) (b .functions)) i) ⌝ }
+{
+    let operation = byte_at(bytes, at + 2 * i);
+    let operand = byte_at(bytes, at + (2 * i + 1));
+    instruction_breaks(arguments, b.classes, b.functions, operation, operand)
+}
+
+// Whether one of `count` instructions from byte `at` on breaks the rule.
+fn pairs_break(bytes: &[u8], b: Bundle, arguments: usize, at: usize, count: usize) -> bool
+    requires { ⌜ at + 2 * count ≤ length (now bytes) ⌝ }
+    ensures { λ r. ⌜ r ≡ not (everyPair (instructionRule arguments (b .classes) (b .functions)) (part (now (bytes .entry)) at (2 * count))) ⌝ }
+{
+    let mut i = 0;
+    while i < count {
+        if pair_breaks(bytes, b, arguments, at, i) {
+            return true;
+        }
+        i += 1;
+    }
+    false
+}
+
+// Whether an instruction of method m, which keeps its own rule, breaks the rule.
+pub fn code_breaks(bytes: &[u8], b: Bundle, m: usize) -> bool
+    requires { ⌜ Placed (now bytes) b ⌝ }
+    requires { ⌜ m < b .methods ⌝ }
+    requires { ⌜ methodRule (now bytes) m ≡ true ⌝ }
+    ensures { λ r. ⌜ r ≡ not (codeRule (now (bytes .entry)) m) ⌝ }
+{
+    let n = argument_count(bytes, b, method_function(bytes, b, m));
+    let start = body_offset(bytes, b, m);
+    let size = body_length(bytes, b, m);
+    pairs_break(bytes, b, n, b.code_at + start, size / 2)
+}

@@ -1,0 +1,82 @@
+//! The worked cases of the rules.
+
+use builder::{chart_3, chart_4, chart_5, looping, Parts};
+use plain::{Reply, ROW, SCRATCH};
+
+fn reply(number: u8, named: &[u32]) -> Reply {
+    let mut values = [0; 8];
+    values[..named.len()].copy_from_slice(named);
+    Reply { number, values }
+}
+
+fn looked_up(parts: &Parts, a: u32, b: u32) -> Reply {
+    plain::lookup(&parts.bytes(), &mut [7; SCRATCH], 0, [a, b, 0])
+}
+
+fn ran(parts: &Parts, arguments: [u32; 3], count: u32) -> Reply {
+    plain::run(&parts.bytes(), &mut [7; SCRATCH], 0, arguments, count)
+}
+
+fn checked(parts: &Parts) -> Reply {
+    plain::check(&parts.bytes(), &mut [7; SCRATCH])
+}
+
+#[test]
+fn lengths() {
+    assert_eq!(chart_3().bytes().len(), 127);
+    assert_eq!(chart_4().bytes().len(), 141);
+    assert_eq!(chart_5().bytes().len(), 146);
+}
+
+#[test]
+fn lookups() {
+    assert_eq!(looked_up(&chart_3(), 1, 3), reply(0, &[2]));
+    assert_eq!(looked_up(&chart_3(), 1, 4), reply(0, &[0]));
+    assert_eq!(looked_up(&chart_3(), 2, 3), reply(0, &[1]));
+    assert_eq!(looked_up(&chart_3(), 2, 4), reply(11, &[0, 2, 4, 0, 0, 1]));
+    assert_eq!(looked_up(&chart_4(), 2, 4), reply(0, &[3]));
+}
+
+#[test]
+fn checks() {
+    assert_eq!(checked(&chart_3()), reply(11, &[0, 0, 2, 4, 0, 0, 1]));
+    assert_eq!(checked(&chart_4()), reply(0, &[]));
+    assert_eq!(checked(&chart_5()), reply(0, &[]));
+    assert_eq!(checked(&looping()), reply(0, &[]));
+}
+
+#[test]
+fn runs() {
+    assert_eq!(ran(&chart_4(), [2, 4, 0], 1), reply(0, &[0, 7, 0, 0, 0, 0, 0, 1]));
+    assert_eq!(ran(&chart_4(), [2, 4, 0], 0), reply(0, &[1]));
+    assert_eq!(ran(&looping(), [0; 3], 31), reply(0, &[1, 0, 0, 0, 0, 0, 0, 31]));
+    assert_eq!(ran(&looping(), [0; 3], 32), reply(0, &[2, 0, 0, 0, 0, 0, 0, 31]));
+}
+
+#[test]
+fn send_types() {
+    let mut row = [9; ROW + 1];
+    let answer = plain::send_type(&chart_5().bytes(), &mut [7; SCRATCH], &mut row, 0, [2, 4, 0]);
+    assert_eq!(answer, reply(0, &[]));
+    let inside: Vec<usize> = (0..ROW).filter(|&class| row[class] == 1).collect();
+    assert_eq!(inside, [0, 5, 7]);
+    assert_eq!(row[ROW], 9);
+}
+
+#[test]
+fn openings() {
+    let empty = Parts::default().bytes();
+    assert_eq!(empty.len(), 24);
+    assert_eq!(plain::open(&empty[..23]), reply(1, &[]));
+    assert_eq!(plain::open(&empty), reply(3, &[]));
+    let mut parts = Parts::default();
+    parts.class(true, &[]);
+    assert_eq!(parts.bytes().len(), 30);
+    assert_eq!(checked(&parts), reply(0, &[]));
+    while parts.classes.len() < 128 {
+        parts.class(true, &[0]);
+    }
+    assert_eq!(plain::open(&parts.bytes()), reply(0, &[128, 0, 0, 0]));
+    parts.class(true, &[0]);
+    assert_eq!(plain::open(&parts.bytes()), reply(3, &[]));
+}

@@ -1,0 +1,187 @@
+"""The rules for opening, the body view and reader, ancestry and lookup, and for which sends signatures cover, written without the library."""
+import functools
+import itertools
+
+LONGEST = 65535
+CLASSES, FUNCTIONS, SIGNATURES, METHODS, PLACES = 128, 64, 256, 512, 3
+ABSENT, SHORT, SHORT_ROW = 18, 19, 20
+MATRIX = 16384
+
+
+def word(data, at):
+    return data[at] + 256 * data[at + 1]
+
+
+def spans(bundle):
+    """offset and length of each section"""
+    return [(word(bundle, at), word(bundle, at + 2)) for at in range(0, 24, 4)]
+
+
+def records(section, width):
+    return [section[at:at + width] for at in range(0, len(section), width)]
+
+
+def follow(lists, end):
+    """for each (offset, length): whether it begins where the one before it ends, lies within end, and, for the last, reaches it"""
+    at = 0
+    for k, (offset, length) in enumerate(lists):
+        at += length
+        yield offset + length == at <= end and (at == end or k + 1 < len(lists))
+
+
+def lowest(number, kept):
+    """the number and the record that is the first not to keep its rule, or nothing"""
+    return next(((number, [k]) for k, keeps in enumerate(kept) if not keeps), None)
+
+
+@functools.cache
+def opening(bundle):
+    """the number, 0 where the bundle opens, with its values"""
+    if not 24 <= len(bundle) <= LONGEST:
+        return 1, []
+    sections, at = [], 24
+    for offset, length in spans(bundle):
+        if offset != at:
+            return 2, []
+        sections.append(bundle[at:at + length])
+        at += length
+    if at != len(bundle):
+        return 2, []
+    parents, code = sections[1], sections[5]
+    if any(len(sections[k]) % width for k, width in [(0, 6), (3, 5), (4, 12), (5, 2)]) or (code and not sections[4]):
+        return 2, []
+    classes, functions, signatures, methods = (records(sections[k], width) for k, width in [(0, 6), (2, 1), (3, 5), (4, 12)])
+    counts = [len(classes), len(functions), len(signatures), len(methods)]
+    if not classes or any(count > limit for count, limit in zip(counts, [CLASSES, FUNCTIONS, SIGNATURES, METHODS])):
+        return 3, []
+
+    def class_kept(k, record):
+        above = parents[word(record, 2):][:word(record, 4)]
+        rising = all(lower < higher for lower, higher in itertools.pairwise([*above, k]))
+        return record[0] <= 1 and record[1] == 0 and rising and (k == 0) == (word(record, 4) == 0)
+
+    def places_kept(function, places):
+        arity = functions[function][0]
+        return all(c < len(classes) for c in places[:arity]) and not any(places[arity:])
+
+    def signature_kept(record):
+        return record[0] < len(functions) and places_kept(record[0], record[1:4]) and record[4] < len(classes)
+
+    def method_kept(record):
+        if record[0] >= len(functions) or record[7] >= len(classes) or word(record, 10) not in range(2, 129, 2):
+            return False
+        return places_kept(record[0], record[1:4]) and places_kept(record[0], record[4:7])
+
+    def applies_to(record):
+        """the function and the specialisers"""
+        return record[:4]
+
+    def instruction_kept(function, operation, operand):
+        limits = [functions[function][0], len(classes), len(functions)]
+        return operation < len(limits) and operand < limits[operation]
+
+    lists = list(follow([(word(record, 2), word(record, 4)) for record in classes], len(parents)))
+    bodies = list(follow([(word(record, 8), word(record, 10)) for record in methods], len(code)))
+    # Each rule is judged only where the ones before it hold, since a later one reads what an earlier one makes sure is there.
+    rules = [
+        lambda: lowest(4, (class_kept(k, record) and lists[k] for k, record in enumerate(classes))),
+        lambda: lowest(5, (record[0] <= PLACES for record in functions)),
+        lambda: lowest(6, (signature_kept(record) for record in signatures)),
+        lambda: lowest(7, (method_kept(record) and bodies[k] for k, record in enumerate(methods))),
+        lambda: lowest(8, (applies_to(record) not in map(applies_to, methods[:k]) for k, record in enumerate(methods))),
+        lambda: lowest(9, (
+            all(instruction_kept(record[0], *instruction) for instruction in records(code[word(record, 8):][:word(record, 10)], 2))
+            for record in methods)),
+    ]
+    return next(filter(None, (rule() for rule in rules)), (0, counts))
+
+
+def refused(number, values):
+    """what a view answers for a bundle that does not open: the number, and the record it names, with an empty part"""
+    return number, values[0] if values else 0, 0
+
+
+def view(bundle, method):
+    """number, then the part's start and length; for a refusal the record it names, or 0, and 0"""
+    number, values = opening(bundle)
+    if number:
+        return refused(number, values)
+    if method >= values[3]:
+        return ABSENT, 0, 0
+    record = bundle[spans(bundle)[4][0] + 12 * method:][:12]
+    return 0, spans(bundle)[5][0] + word(record, 8), word(record, 10)
+
+
+def reading(code, position):
+    """the values of what is read at a position of any bytes, counted in instructions: one more than the operation, and the operand; both are 0 where
+    no whole instruction with a known operation stands"""
+    pair = code[2 * position:][:2]
+    return [pair[0] + 1, pair[1]] if len(pair) == 2 and pair[0] <= 2 else [0, 0]
+
+
+def instruction(bundle, method, position):
+    """number and values of what is read at a position of a method's code"""
+    opened, values = opening(bundle)
+    if opened:
+        return opened, values
+    number, start, length = view(bundle, method)
+    return number, [] if number else reading(bundle[start:][:length], position)
+
+
+@functools.cache
+def above(bundle):
+    """for each class the set of those it is under"""
+    (class_at, length), (parent_at, _) = spans(bundle)[:2]
+    sets = []
+    for k, record in enumerate(records(bundle[class_at:][:length], 6)):
+        sets.append({k}.union(*(sets[p] for p in bundle[parent_at + word(record, 2):][:word(record, 4)])))
+    return sets
+
+
+def ancestry(bundle, a, b):
+    """number and values, 1 for yes and 0 for no, of an opened bundle"""
+    sets = above(bundle)
+    return (0, [int(b in sets[a])]) if max(a, b) < len(sets) else (ABSENT, [])
+
+
+def lookup(bundle, function, *places):
+    """number and values, of an opened bundle: the method found; or the function and the places, with the rivals for 11"""
+    sets, (at, functions), (method_at, length) = above(bundle), spans(bundle)[2], spans(bundle)[4]
+    if function >= functions:
+        return ABSENT, []
+    arity = bundle[at + function]
+    if any(c >= len(sets) for c in places[:arity]) or any(places[arity:]):
+        return ABSENT, []
+
+    def under(classes, others):
+        return all(other in sets[c] for c, other in zip(classes[:arity], others))
+
+    applicable = {
+        m: record[1:4] for m, record in enumerate(records(bundle[method_at:][:length], 12)) if record[0] == function and under(places, record[1:4])}
+    if not applicable:
+        return 10, [function, *places]
+    leading = [m for m, own in applicable.items() if all(under(own, others) for others in applicable.values())]
+    if leading:
+        return 0, leading
+    unbeaten = [m for m, own in applicable.items() if not any(under(others, own) for o, others in applicable.items() if o != m)]
+    return 11, [function, *places, *unbeaten[:2]]
+
+
+def is_covered(bundle, function, *places):
+    """whether some signature of the function has each class of a send of it under its class at that place"""
+    sets, (at, _), (signature_at, length) = above(bundle), spans(bundle)[2], spans(bundle)[3]
+    arity = bundle[at + function]
+    return any(
+        record[0] == function and all(other in sets[c] for c, other in zip(places[:arity], record[1:4]))
+        for record in records(bundle[signature_at:][:length], 5))
+
+
+ASKED = {"ancestry": ancestry, "lookup": lookup}
+
+
+def asked(bundle, scratch, kind, *numbers):
+    """the answer of a call that is lent so much scratch"""
+    number, values = opening(bundle)
+    if number:
+        return number, values
+    return ASKED[kind](bundle, *numbers) if scratch >= MATRIX else (SHORT, [])
