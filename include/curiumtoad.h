@@ -1,53 +1,34 @@
 /* Curiumtoad from C, and from any language that calls C.
  *
  * The functions are those of crates/curiumtoad_c, whose contracts say of each what is said here and are proved: for whatever is passed, number, values,
- * scratch and row are those of the rules (crates/rules/specs).
+ * scratch, row and text are those of the rules (crates/rules/specs) and of the listing (crates/text/specs).
  *
  * Build and link, on x86-64 Linux; the archive needs no library beside the C library:
  *
  *     rt staticlib curiumtoad_c            writes target/staticlib/libcuriumtoad_c.a
  *     cc -Iinclude program.c target/staticlib/libcuriumtoad_c.a
  *
- * Use:
+ * include/example.c is a program to begin with.
  *
- *     static uint8_t scratch[CURIUMTOAD_SCRATCH];
- *     uint32_t values[CURIUMTOAD_VALUES];
- *     switch (curiumtoad_lookup(bundle, size, scratch, sizeof scratch, 0, 2, 4, 0, values)) {
- *     case 0: printf("method %u\n", (unsigned)values[0]); break;
- *     case 11: printf("methods %u and %u\n", (unsigned)values[4], (unsigned)values[5]); break;
- *     }
- *
- * What a function returns is 0 where the call answers, else the number of the refusal or of the run's ending. Each call writes all eight values;
- * those that are not named below are 0.
- *
- *     number     values
- *     1 to 3     none: the size, the directory, or the limits of the bundle
- *     4 to 9     the record: a class, function, signature or method, a twin, a method's code
- *     10         function, a0, a1, a2: no method applies
- *     11         function, a0, a1, a2, and the two rivals, lower first
- *     12         function, a0, a1, a2, method: a declared class does not hold its argument
- *     13         function, a0, a1, a2, method: its result class is not under the signature's
- *     14 to 17   method, instruction: too few or too many values, an abstract class made, no licence, a wrong result
- *     18         none: an absent number, an unused place that is not 0, an abstract class, a tuple not covered
- *     19, 20     none: scratch or row too short
- *
- * From check and witness, 10 to 13 have the signature before the function. A send type call has no values with 16, and a run that began has its steps in
- * values[7], however it ends. Numbers are tried in the order 1 to 9, 19, 20, 18, then the rest.
+ * A function returns CURIUMTOAD_OK where the call answers, else the number of the refusal or of the run's ending. Each call writes all eight values;
+ * those that are not named below are 0. Numbers are tried in the order 1 to 9, 19, 20, 18, then the rest.
  *
  * bundle is the bundle's bytes, and size their count; it is never written. A function, a class, a signature or a method is its number in the bundle; a
  * function of fewer than three arguments has 0 at its unused places. Numbers that are not there are refused by 18, so any may be passed.
  *
- * scratch holds at least CURIUMTOAD_SCRATCH bytes, row at least CURIUMTOAD_ROW; with fewer the call is refused, by 19 or 20. What they hold before a call
- * does not matter. 1 to 9 and 19 leave the scratch as it was; else byte 128 * a + b is 1 where class a is under class b, and 0 otherwise, for a and b below
- * 128. Bytes past the first 16,384, and past the first 128 of the row, are never touched.
+ * scratch holds at least CURIUMTOAD_SCRATCH_BYTES, row at least CURIUMTOAD_ROW_BYTES; with fewer the call is refused, by 19 or 20. What they hold before a
+ * call does not matter. 1 to 9 and 19 leave the scratch as it was; else byte 128 * a + b is 1 where class a is under class b, and 0 otherwise, for a and b
+ * below 128. Bytes past the first 16,384, and past the first 128 of the row, are never touched.
  *
  * What a caller owes, as C has no types for it:
  *
  * - A pointer with a length is to that many bytes, which the caller may read, and write where there is no const. It is not null and points to some
- *   object even where the length is 0. values is to eight aligned numbers.
- * - bundle, scratch, row and values do not overlap, and no one else writes them during the call.
+ *   object even where the length is 0. values is to CURIUMTOAD_VALUE_COUNT aligned numbers.
+ * - bundle, scratch, row, text and values do not overlap, and no one else writes them during the call.
+ * - The stack has CURIUMTOAD_STACK_BYTES left. A call uses less than 48 kilobytes of them, a listing the most. This is measured and not proved.
  *
- * Nothing is kept between calls, and nothing is allocated. A call uses less than 32 kilobytes of stack, as measured; no proof speaks of the stack.
+ * Nothing is kept between calls, and nothing is allocated. So any number of threads may call at once, each with its own scratch, row, text and values; a
+ * bundle may be shared as long as no one writes it.
  */
 #ifndef CURIUMTOAD_H
 #define CURIUMTOAD_H
@@ -55,52 +36,162 @@
 #include <stddef.h>
 #include <stdint.h>
 
-#define CURIUMTOAD_SCRATCH 16384
-#define CURIUMTOAD_ROW 128
-#define CURIUMTOAD_VALUES 8
+/* Raised by each change of the bundle's layout, of what scratch, row or values hold or how large they are, or of the arguments of a function. */
+#define CURIUMTOAD_VERSION 1
+
+#define CURIUMTOAD_BUNDLE_BYTES 65535  /* the most that a bundle may have */
+#define CURIUMTOAD_SCRATCH_BYTES 16384
+#define CURIUMTOAD_ROW_BYTES 128
+#define CURIUMTOAD_TEXT_BYTES 512      /* enough for the listing of any bundle */
+#define CURIUMTOAD_VALUE_COUNT 8
+#define CURIUMTOAD_STACK_BYTES 65536
 
 #ifdef __cplusplus
 extern "C" {
 #endif
 
+/* The numbers (docs/MANUAL.md, part 11). */
+enum curiumtoad_number {
+    CURIUMTOAD_OK = 0,
+
+    /* The bundle does not open. 1 to 3 have no values, 4 to 9 the record. */
+    CURIUMTOAD_BAD_LENGTH = 1,       /* fewer than 24 bytes, or more than CURIUMTOAD_BUNDLE_BYTES */
+    CURIUMTOAD_BAD_DIRECTORY = 2,    /* sections that do not follow each other, or are not whole records */
+    CURIUMTOAD_BAD_COUNTS = 3,       /* more records of a kind than there may be, or no class */
+    CURIUMTOAD_BAD_CLASS = 4,
+    CURIUMTOAD_BAD_FUNCTION = 5,
+    CURIUMTOAD_BAD_SIGNATURE = 6,
+    CURIUMTOAD_BAD_METHOD = 7,
+    CURIUMTOAD_TWIN_METHOD = 8,      /* a method with the specialisers of an earlier one of its function */
+    CURIUMTOAD_BAD_CODE = 9,         /* a method's code */
+
+    /* A send fails, or breaks a signature. These have the send, and the signature before it from check and witness. */
+    CURIUMTOAD_NO_METHOD = 10,       /* no method applies */
+    CURIUMTOAD_AMBIGUOUS = 11,       /* none of those that apply leads; with the two rivals, lower first */
+    CURIUMTOAD_NARROW_DECLARED = 12, /* a declared class does not hold its argument; with the method */
+    CURIUMTOAD_WIDE_RESULT = 13,     /* the method's result class is not under the signature's; with the method */
+
+    /* A body breaks a rule. These have method and instruction; a send type call has no values with 16. */
+    CURIUMTOAD_BAD_STACK = 14,       /* too few or too many values */
+    CURIUMTOAD_ABSTRACT_NEW = 15,    /* an abstract class made */
+    CURIUMTOAD_NO_LICENCE = 16,      /* a send that no signature licenses */
+    CURIUMTOAD_LOOSE_RESULT = 17,    /* what is left at the end need not be of the method's result class */
+
+    /* The call is wrong. These have no values, but for 18 from run_accepted. */
+    CURIUMTOAD_ABSENT = 18,          /* an absent number, an unused place that is not 0, an abstract class, a tuple not covered */
+    CURIUMTOAD_SHORT_SCRATCH = 19,
+    CURIUMTOAD_SHORT_BUFFER = 20     /* the row, or the buffer of a listing */
+};
+
+/* Which of the values holds what. */
+enum curiumtoad_place {
+    /* open */
+    CURIUMTOAD_AT_CLASSES = 0,
+    CURIUMTOAD_AT_FUNCTIONS = 1,
+    CURIUMTOAD_AT_SIGNATURES = 2,
+    CURIUMTOAD_AT_METHODS = 3,
+
+    /* ancestry: 1 for yes; lookup: the method found */
+    CURIUMTOAD_AT_UNDER = 0,
+    CURIUMTOAD_AT_FOUND = 0,
+
+    /* body: where the code begins in the bundle, and its bytes */
+    CURIUMTOAD_AT_CODE_START = 0,
+    CURIUMTOAD_AT_CODE_LENGTH = 1,
+
+    /* listing */
+    CURIUMTOAD_AT_TEXT_LENGTH = 0,
+
+    /* run and run_accepted; the steps of a run that began are there however it ends */
+    CURIUMTOAD_AT_ENDING = 0,
+    CURIUMTOAD_AT_CLASS = 1,
+    CURIUMTOAD_AT_STEPS = 7,
+
+    /* 4 to 9 */
+    CURIUMTOAD_AT_RECORD = 0,
+
+    /* 10 to 12 from lookup and run */
+    CURIUMTOAD_AT_SEND_FUNCTION = 0,
+    CURIUMTOAD_AT_SEND_A0 = 1,
+    CURIUMTOAD_AT_SEND_A1 = 2,
+    CURIUMTOAD_AT_SEND_A2 = 3,
+    CURIUMTOAD_AT_SEND_METHOD = 4,
+    CURIUMTOAD_AT_SEND_RIVAL = 5,
+
+    /* 10 to 13 from check, witness and run_accepted */
+    CURIUMTOAD_AT_BROKEN_SIGNATURE = 0,
+    CURIUMTOAD_AT_BROKEN_FUNCTION = 1,
+    CURIUMTOAD_AT_BROKEN_A0 = 2,
+    CURIUMTOAD_AT_BROKEN_A1 = 3,
+    CURIUMTOAD_AT_BROKEN_A2 = 4,
+    CURIUMTOAD_AT_BROKEN_METHOD = 5,
+    CURIUMTOAD_AT_BROKEN_RIVAL = 6,
+
+    /* 14 to 17; the end of a body counts as one instruction more */
+    CURIUMTOAD_AT_BODY_METHOD = 0,
+    CURIUMTOAD_AT_BODY_INSTRUCTION = 1,
+
+    /* 18 from run_accepted */
+    CURIUMTOAD_AT_REASON = 0
+};
+
+/* How a run ends that nothing stopped. */
+enum curiumtoad_ending {
+    CURIUMTOAD_ENDING_VALUE = 0,     /* with a value, whose class is at CURIUMTOAD_AT_CLASS */
+    CURIUMTOAD_ENDING_SPENT = 1,     /* the count of steps was used up */
+    CURIUMTOAD_ENDING_DEEP = 2       /* a 33rd frame was needed */
+};
+
+/* Why run_accepted gives 18. */
+enum curiumtoad_reason {
+    CURIUMTOAD_REASON_WRONG_CALL = 0,
+    CURIUMTOAD_REASON_NOT_COVERED = 1
+};
+
+/* The version that the library was built with. Where it is not CURIUMTOAD_VERSION, the caller was compiled with another header: make no other call. */
+uint32_t curiumtoad_version(void);
+
 /* Opening. 0: the counts of classes, functions, signatures and methods. Else 1 to 9. */
-uint8_t curiumtoad_open(const uint8_t *bundle, size_t size, uint32_t *values);
+uint8_t curiumtoad_open(const uint8_t *bundle, size_t size, uint64_t *values);
 
 /* Ancestry. 0: 1 where class a is under class b, else 0. Else 1 to 9, 18, 19. */
 uint8_t curiumtoad_ancestry(const uint8_t *bundle, size_t size, uint8_t *scratch, size_t scratch_size,
-                            uint32_t a, uint32_t b, uint32_t *values);
+                            uint64_t a, uint64_t b, uint64_t *values);
 
 /* Lookup, abstract classes too. 0: the method that the send finds. Else 1 to 11, 18, 19. */
 uint8_t curiumtoad_lookup(const uint8_t *bundle, size_t size, uint8_t *scratch, size_t scratch_size,
-                          uint32_t function, uint32_t a0, uint32_t a1, uint32_t a2, uint32_t *values);
+                          uint64_t function, uint64_t a0, uint64_t a1, uint64_t a2, uint64_t *values);
 
 /* The static type of a send with arguments of these classes. 0: byte b of the first 128 of the row is 1 where class b is in the type, else 0.
  * Else 1 to 9, 16, 18, 19, 20, and the row is as it was. */
 uint8_t curiumtoad_send_type(const uint8_t *bundle, size_t size, uint8_t *scratch, size_t scratch_size,
                              uint8_t *row, size_t row_size,
-                             uint32_t function, uint32_t a0, uint32_t a1, uint32_t a2, uint32_t *values);
+                             uint64_t function, uint64_t a0, uint64_t a1, uint64_t a2, uint64_t *values);
 
 /* The check of the whole bundle. 0: accepted. Else 1 to 17, 19: the lowest broken signature with a broken tuple of it, or with none the lowest broken
  * method and its first broken instruction. */
-uint8_t curiumtoad_check(const uint8_t *bundle, size_t size, uint8_t *scratch, size_t scratch_size, uint32_t *values);
+uint8_t curiumtoad_check(const uint8_t *bundle, size_t size, uint8_t *scratch, size_t scratch_size, uint64_t *values);
 
 /* The coverage rule for one signature and a tuple of concrete classes that it covers. 0: it holds. Else 1 to 13, 18, 19. */
 uint8_t curiumtoad_witness(const uint8_t *bundle, size_t size, uint8_t *scratch, size_t scratch_size,
-                           uint32_t signature, uint32_t a0, uint32_t a1, uint32_t a2, uint32_t *values);
+                           uint64_t signature, uint64_t a0, uint64_t a1, uint64_t a2, uint64_t *values);
 
-/* The code of a method. 0: it is the values[1] bytes from bundle + values[0] on, two to an instruction. Else 1 to 9, 18. */
-uint8_t curiumtoad_body(const uint8_t *bundle, size_t size, uint32_t method, uint32_t *values);
+/* The code of a method. 0: where it begins, counted from bundle, and its bytes, two to an instruction. Else 1 to 9, 18. */
+uint8_t curiumtoad_body(const uint8_t *bundle, size_t size, uint64_t method, uint64_t *values);
 
-/* A run of a send with concrete classes, of at most count steps. The bundle has to open, not to be accepted. 0: values[0] is 0 with the class of the
- * value in values[1], 1 where the count was used up (Spent), 2 where a 33rd frame was needed (Deep). 10, 11, 12, 14, 15: what stopped it.
- * values[7] is the steps made. Else 1 to 9, 18, 19, without steps. */
+/* A run of a send with concrete classes, of at most count steps. The bundle has to open, not to be accepted. 0: the ending, a value, Spent or Deep.
+ * 10, 11, 12, 14, 15: what stopped it. Each of these has the steps made. Else 1 to 9, 18, 19, without steps. */
 uint8_t curiumtoad_run(const uint8_t *bundle, size_t size, uint8_t *scratch, size_t scratch_size,
-                       uint32_t function, uint32_t a0, uint32_t a1, uint32_t a2, uint32_t count, uint32_t *values);
+                       uint64_t function, uint64_t a0, uint64_t a1, uint64_t a2, uint32_t count, uint64_t *values);
 
 /* The same for an accepted bundle and a send that some signature covers, where nothing stops a run. 0: as for a run. A call that is wrong: 1 to 9, 18,
- * 19. Then, a bundle that is not accepted: the number and values of the check. Then, a send that no signature covers: 18 with 1 in values[0]. */
+ * 19. Then, a bundle that is not accepted: the number and values of the check. Then, a send that no signature covers: 18 with the reason. */
 uint8_t curiumtoad_run_accepted(const uint8_t *bundle, size_t size, uint8_t *scratch, size_t scratch_size,
-                                uint32_t function, uint32_t a0, uint32_t a1, uint32_t a2, uint32_t count, uint32_t *values);
+                                uint64_t function, uint64_t a0, uint64_t a1, uint64_t a2, uint32_t count, uint64_t *values);
+
+/* The listing of the bundle as text (docs/MANUAL.md, part 12), whether it opens or not. 0: the length of the text, which is at the start of the buffer;
+ * the bytes after it are as they were, and no zero byte ends it. 20: the buffer is too short, and is as it was. It takes no scratch, as it has its own. */
+uint8_t curiumtoad_listing(const uint8_t *bundle, size_t size, uint8_t *text, size_t text_size, uint64_t *values);
 
 #ifdef __cplusplus
 }

@@ -4,10 +4,9 @@ from typing import NamedTuple
 
 from rules import SHORT, above, opening
 
-# The ends of a run that fails nowhere have no numbers in the rules. The test program gives them these.
-ENDS = {"value": 32, "spent": 33, "deep": 34}
-# Nor has a buffer that is too short for a listing, nor an accepted run of a send that no signature covers.
-SHORT_TEXT, NOT_COVERED = 35, 36
+# The first value of a run that no number stops.
+ENDS = {"value": 0, "spent": 1, "deep": 2}
+VALUES = 8
 # The scratch of a call is longer than the matrix, so that a byte written past it shows.
 SCRATCH = 17000
 # So is the row longer than a type.
@@ -27,17 +26,21 @@ class Call(NamedTuple):
 
 
 class Reply(NamedTuple):
-    """the number, six values, the number beside them (the steps of a run, the signature of a coverage reason), and what is written to the row: these
-    bytes, then zeros up to a place"""
+    """the number, eight values, and what is written to the row: these bytes, then zeros up to a place"""
     number: int
     values: tuple
-    beside: int = 0
     written: bytes = b""
     zeros_to: int = 0
 
 
 def reply(number, values=(), **more):
-    return Reply(number, (*values, *[0] * (6 - len(values))), **more)
+    return Reply(number, (*values, *[0] * (VALUES - len(values))), **more)
+
+
+def ended(end, values, steps):
+    """the reply to a run that ends so: one of ENDS, or a number. The steps are the last value"""
+    number, values = (0, [ENDS[end], *values]) if end in ENDS else (end, values)
+    return reply(number, [*values, *[0] * (VALUES - 1 - len(values)), steps])
 
 
 def grouped(n):
@@ -69,7 +72,7 @@ def fills(call, answer):
 def call_bytes(call, answer):
     numbers = [*call.numbers, *[0] * (4 - len(call.numbers))]
     asked_for = block(ENTRIES.index(call.entry), call.scratch, *numbers, call.count, call.row)
-    answered = block(answer.number, fills(call, answer), answer.beside, *answer.values, len(answer.written), answer.zeros_to)
+    answered = block(answer.number, fills(call, answer), *answer.values, len(answer.written), answer.zeros_to)
     return asked_for + answered + answer.written
 
 
@@ -116,7 +119,7 @@ def one(stream, wanted):
         for _ in range(calls):
             asked_for, middle = taken_block(stream, at)
             answered, end = taken_block(stream, middle)
-            end += field(answered, 9)
+            end += field(answered, 2 + VALUES)
             if case == wanted:
                 said = f"{ENTRIES[field(asked_for, 0)]} on a bundle of {length} bytes: asked {asked_for[1:]}, expected {answered}"
                 return block(length, classes, 1) + shared + stream[at:end], said

@@ -284,8 +284,8 @@ class Opening(unittest.TestCase):
             number, values = self.answer(SAMPLES[name])
             self.assertEqual(" ".join(map(str, ["refused", number, *(word for k in values for word in ["record", k])])) + "\n", listing(name))
 
-    def test_bundles_of_document_01_and_at_the_limits(self):
-        for data, _, _ in vectors.of_document_01():
+    def test_bundles_of_the_rules_and_at_the_limits(self):
+        for data, _, _ in vectors.of_the_rules():
             self.assert_answer(data)
 
     def test_samples_with_one_byte_changed(self):

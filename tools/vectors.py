@@ -23,7 +23,7 @@ from made import write_or_check  # noqa: E402
 from rules import (  # noqa: E402
     ABSENT, ASKED, CLASSES, FUNCTIONS, LONGEST, MATRIX, METHODS, PLACES, SHORT, SHORT_ROW, SIGNATURES, asked, instruction, is_covered, opening, reading,
     refused, spans, view)
-from stream import ENDS, NOT_COVERED, ROW, SCRATCH, SCRATCHED, SHORT_TEXT, Call, one, reply, stream_of, tally  # noqa: E402
+from stream import ROW, SCRATCH, SCRATCHED, Call, ended, one, reply, stream_of, tally  # noqa: E402
 
 MOST = 2**32 - 1
 
@@ -81,7 +81,7 @@ def longest():
     return long, too_long
 
 
-def of_document_01():
+def of_the_rules():
     """(bundle, number, values) for the cases of the rules that opening answers, and for bundles at the limits"""
     alone = make.SAMPLES["one-class"]
     assert len(alone) == 30
@@ -174,7 +174,7 @@ def opening_vectors(folder):
 def opening_cases(folder):
     """(bundle, call, reply), as all of these"""
     sampled = [(bundle, *opening(bundle)) for bundle in make.SAMPLES.values()]
-    for bundle, *answer in itertools.chain(opening_vectors(folder), of_document_01(), sampled):
+    for bundle, *answer in itertools.chain(opening_vectors(folder), of_the_rules(), sampled):
         held(bundle, tuple(answer), opening(bundle))
         yield bundle, Call("opening"), reply(*answer)
 
@@ -295,13 +295,18 @@ def lookup_cases(folder):
 
 def found(answer):
     """the reply that a vector's answer gives"""
-    beside = answer.get("steps", answer.get("signature")) or 0
-    number = ENDS[answer["end"]] if "end" in answer else answer["number"]
+    values = answer.get("values", [])
     if "tuple" in answer:
-        return reply(number, [answer["function"], *answer["tuple"], *answer["methods"]], beside=beside)
-    if "method" in answer:
-        return reply(number, [answer["method"], answer["instruction"]], beside=beside)
-    return reply(number, [answer["class"]] if "class" in answer else answer.get("values", []), beside=beside)
+        values = [answer["function"], *answer["tuple"], *answer["methods"]]
+    elif "method" in answer:
+        values = [answer["method"], answer["instruction"]]
+    elif "class" in answer:
+        values = [answer["class"]]
+    if "steps" in answer:
+        return ended(answer.get("end", answer.get("number")), values, answer["steps"])
+    if "signature" in answer:
+        values = [answer["signature"], *values]
+    return reply(answer["number"], values)
 
 
 def turned_away(folder, entry, numbers, count=0, rows=(0,)):
@@ -324,24 +329,24 @@ def turned_away(folder, entry, numbers, count=0, rows=(0,)):
             yield bundle, Call(entry, tuple(asked_for), scratch, row, count), answer
 
 
-# P 7, P 8, P 10 and P 11, and runs beside them: (bundle, numbers, count, steps, number, values)
+# P 7, P 8, P 10 and P 11, and runs beside them: (bundle, numbers, count, steps, end, values)
 RUNS = [
-    ("chart-4", [0, 2, 4, 0], 1, 1, ENDS["value"], [7]),
-    ("chart-4", [0, 2, 4, 0], 0, 0, ENDS["spent"], []),
-    ("chart-4", [0, 2, 4, 0], MOST, 1, ENDS["value"], [7]),
-    ("loop", [0, 0, 0, 0], 31, 31, ENDS["spent"], []),
-    ("loop", [0, 0, 0, 0], 32, 31, ENDS["deep"], []),
-    ("loop", [0, 0, 0, 0], 0, 0, ENDS["spent"], []),
-    ("loop", [0, 0, 0, 0], 30, 30, ENDS["spent"], []),
-    ("loop", [0, 0, 0, 0], 33, 31, ENDS["deep"], []),
-    ("loop", [0, 0, 0, 0], MOST, 31, ENDS["deep"], []),
+    ("chart-4", [0, 2, 4, 0], 1, 1, "value", [7]),
+    ("chart-4", [0, 2, 4, 0], 0, 0, "spent", []),
+    ("chart-4", [0, 2, 4, 0], MOST, 1, "value", [7]),
+    ("loop", [0, 0, 0, 0], 31, 31, "spent", []),
+    ("loop", [0, 0, 0, 0], 32, 31, "deep", []),
+    ("loop", [0, 0, 0, 0], 0, 0, "spent", []),
+    ("loop", [0, 0, 0, 0], 30, 30, "spent", []),
+    ("loop", [0, 0, 0, 0], 33, 31, "deep", []),
+    ("loop", [0, 0, 0, 0], MOST, 31, "deep", []),
     # The opening lookup fails, whatever the count; then what the opening body does.
     ("chart-3", [0, 2, 4, 0], 0, 0, 11, [0, 2, 4, 0, 0, 1]),
     ("narrow-declared", [0, 0, 0, 0], 0, 0, 12, [0, 0, 0, 0, 0]),
     ("abstract-argument", [0, 0, 0, 0], 1, 0, ABSENT, []),
     ("two-values", [0, 0, 0, 0], 2, 2, 14, [0, 2]),
     ("abstract-new", [0, 0, 0, 0], 1, 0, 15, [0, 0]),
-    ("abstract-new", [0, 0, 0, 0], 0, 0, ENDS["spent"], []),
+    ("abstract-new", [0, 0, 0, 0], 0, 0, "spent", []),
 ]
 
 
@@ -350,46 +355,46 @@ LONG_RUN = 100_000_000
 
 
 def recursive_runs():
-    """(bundle, numbers, count, steps, number, values) of runs that call and return"""
+    """(bundle, numbers, count, steps, end, values) of runs that call and return"""
     # A step for NEW and one for SEND in each frame but the last, which has ARG. The class one higher needs one frame more.
     most = FRAMES - 1
     for k, count, steps, *end in [
-        (0, MOST, 1, ENDS["value"], [0]), (1, MOST, 3, ENDS["value"], [0]), (most, MOST, 2 * most + 1, ENDS["value"], [0]),
-        (most, 2 * most + 1, 2 * most + 1, ENDS["value"], [0]), (most, 2 * most, 2 * most, ENDS["spent"], []),
-        (FRAMES, MOST, 2 * most + 1, ENDS["deep"], []), (FRAMES, 2 * most + 1, 2 * most + 1, ENDS["spent"], []),
+        (0, MOST, 1, "value", [0]), (1, MOST, 3, "value", [0]), (most, MOST, 2 * most + 1, "value", [0]),
+        (most, 2 * most + 1, 2 * most + 1, "value", [0]), (most, 2 * most, 2 * most, "spent", []),
+        (FRAMES, MOST, 2 * most + 1, "deep", []), (FRAMES, 2 * most + 1, 2 * most + 1, "spent", []),
     ]:
         yield descent(FRAMES), [0, k, 0, 0], count, steps, *end
     for last in [0, 1, 4, 12]:
         steps = doubling_steps(last)
-        yield doubling(last), [last, 0, 0, 0], MOST, steps, ENDS["value"], [0]
-        yield doubling(last), [last, 0, 0, 0], steps - 1, steps - 1, ENDS["spent"], []
+        yield doubling(last), [last, 0, 0, 0], MOST, steps, "value", [0]
+        yield doubling(last), [last, 0, 0, 0], steps - 1, steps - 1, "spent", []
     assert doubling_steps(25) > LONG_RUN
-    yield doubling(25), [25, 0, 0, 0], LONG_RUN, LONG_RUN, ENDS["spent"], []
+    yield doubling(25), [25, 0, 0, 0], LONG_RUN, LONG_RUN, "spent", []
 
 
 def run_cases(folder):
-    """the number beside is that of the steps"""
+    """the last value is that of the steps"""
     for entry, bundle in vectors(folder, "run.jsonl"):
         for call in entry["calls"]:
             *numbers, count = call["run"]
             yield bundle, Call("run", tuple(numbers), SCRATCH, count=count), found(call["answer"])
     sampled = [(make.SAMPLES[name], [SCRATCH, MATRIX], *rest) for name, *rest in RUNS]
-    for bundle, lengths, numbers, count, steps, number, values in [*sampled, *((b, [SCRATCH], *rest) for b, *rest in recursive_runs())]:
+    for bundle, lengths, numbers, count, steps, end, values in [*sampled, *((b, [SCRATCH], *rest) for b, *rest in recursive_runs())]:
         for scratch in lengths:
-            yield bundle, Call("run", tuple(numbers), scratch, count=count), reply(number, values, beside=steps)
+            yield bundle, Call("run", tuple(numbers), scratch, count=count), ended(end, values, steps)
     yield from turned_away(folder, "run", [0, 0, 0, 0], MOST)
 
 
 # The checks that the rules name, and of the samples that break one rule each: (bundle, number, values)
 CHECKS = [
-    ("chart-3", 11, [0, 2, 4, 0, 0, 1]),
+    ("chart-3", 11, [0, 0, 2, 4, 0, 0, 1]),
     ("chart-4", 0, []),
     ("one-class", 0, []),
     ("abstract-argument", 0, []),
-    ("no-method", 10, [0, 0, 0, 0]),
-    ("three-faults", 10, [0, 0, 0, 0]),
-    ("narrow-declared", 12, [0, 0, 0, 0, 0]),
-    ("wide-result", 13, [0, 0, 0, 0, 0]),
+    ("no-method", 10, [0, 0, 0, 0, 0]),
+    ("three-faults", 10, [0, 0, 0, 0, 0]),
+    ("narrow-declared", 12, [0, 0, 0, 0, 0, 0]),
+    ("wide-result", 13, [0, 0, 0, 0, 0, 0]),
     ("two-values", 14, [0, 2]),
     ("abstract-new", 15, [0, 0]),
     ("no-licence", 16, [0, 1]),
@@ -398,7 +403,7 @@ CHECKS = [
 
 
 def check_cases(folder):
-    """the number beside is that of the signature"""
+    """from 10 to 13 the first value is that of the signature"""
     for entry, bundle in vectors(folder, "check.jsonl"):
         yield bundle, Call("check", scratch=SCRATCH), found(entry["answer"])
     for name, *answer in CHECKS:
@@ -411,7 +416,7 @@ def check_cases(folder):
         (most_tuples(False), 0),
         (most_methods(), 0),
         *((chained(places), 0) for places in [[[i, j, 0] for i in range(22) for j in range(23)], last, last[::-1]]),
-        (most_tuples(True), 13, [0, *[CLASSES - 1] * PLACES, 1]),
+        (most_tuples(True), 13, [0, 0, *[CLASSES - 1] * PLACES, 1]),
     ]:
         yield bundle, Call("check", scratch=SCRATCH), reply(*answer)
     yield from turned_away(folder, "check", [])
@@ -455,7 +460,7 @@ def send_type_cases(folder):
 
 # Witness checks of the samples: (bundle, numbers, number, values)
 WITNESSES = [
-    ("chart-3", [0, 2, 4, 0], 11, [0, 2, 4, 0, 0, 1]),
+    ("chart-3", [0, 2, 4, 0], 11, [0, 0, 2, 4, 0, 0, 1]),
     ("chart-3", [0, 1, 4, 0], 0, []),
     ("chart-4", [0, 2, 4, 0], 0, []),
     ("chart-5", [1, 2, 4, 0], 0, []),
@@ -465,14 +470,14 @@ WITNESSES = [
     ("chart-5", [0, 2, 4, 1], ABSENT, []),
     ("abstract-argument", [0, 0, 0, 0], ABSENT, []),
     ("abstract-argument", [0, 1, 0, 0], 0, []),
-    ("narrow-declared", [0, 0, 0, 0], 12, [0, 0, 0, 0, 0]),
+    ("narrow-declared", [0, 0, 0, 0], 12, [0, 0, 0, 0, 0, 0]),
     ("narrow-declared", [0, 1, 0, 0], 0, []),
-    ("wide-result", [0, 0, 0, 0], 13, [0, 0, 0, 0, 0]),
+    ("wide-result", [0, 0, 0, 0], 13, [0, 0, 0, 0, 0, 0]),
 ]
 
 
 def witness_cases(folder):
-    """the number beside is that of the signature"""
+    """from 10 to 13 the first value is that of the signature"""
     for entry, bundle in vectors(folder, "witness.jsonl"):
         for call in entry["calls"]:
             yield bundle, Call("witness", tuple(call["witness"]), SCRATCH), found(call["answer"])
@@ -491,7 +496,7 @@ def listing_cases(folder):
     for bundle, text in texts:
         for row in [ROW, len(text)]:
             yield bundle, Call("listing", row=row), reply(0, [len(text)], written=text)
-        yield bundle, Call("listing", row=len(text) - 1), reply(SHORT_TEXT)
+        yield bundle, Call("listing", row=len(text) - 1), reply(SHORT_ROW)
 
 
 def accepted_runs(bundle, calls):
@@ -502,14 +507,14 @@ def accepted_runs(bundle, calls):
             continue
         accepted = call._replace(entry="accepted run")
         # Refusals of the run call come first, then what the check found.
-        if ran.number < 10 or ran.number in (ABSENT, SHORT):
+        if 0 < ran.number < 10 or ran.number in (ABSENT, SHORT):
             yield accepted, ran
         elif verdict.number:
             yield accepted, verdict
         elif not is_covered(bundle, *call.numbers):
-            yield accepted, reply(NOT_COVERED)
+            yield accepted, reply(ABSENT, [1])
         else:
-            held(bundle, ran.number in ENDS.values(), True)
+            held(bundle, ran.number, 0)
             yield accepted, ran
 
 

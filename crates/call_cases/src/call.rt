@@ -3,16 +3,10 @@ use crate::block::NUMBERS;
 use crate::readings::instruction_reply;
 use crate::readings::reading_reply;
 use crate::readings::view_reply;
-use crate::reply::Reply;
-use crate::reply::of_accepted;
-use crate::reply::of_ancestry;
-use crate::reply::of_listing;
-use crate::reply::of_lookup;
-use crate::reply::of_opening;
-use crate::reply::of_run;
-use crate::reply::of_send_type;
-use crate::reply::of_verdict;
-use crate::reply::of_witness;
+use crate::replies::UNKNOWN;
+use crate::replies::alone;
+use curiumtoad::Send;
+use curiumtoad::Tuple;
 use curiumtoad::ancestry::ancestry;
 use curiumtoad::check::check;
 use curiumtoad::lookup::lookup;
@@ -21,6 +15,7 @@ use curiumtoad::run::run;
 use curiumtoad::run_accepted::run_accepted;
 use curiumtoad::send_type::send_type;
 use curiumtoad::witness::witness;
+use reply::Reply;
 use text::listing::listing;
 
 // The code of an entry point, how much is lent, and what is asked: an entry point takes as many of the numbers as it asks for.
@@ -53,12 +48,12 @@ impl Call {
     fn plain_reply(self, bundle: &[u8], row: &mut [u8]) -> Reply {
         let entry = self.entry;
         match entry {
-            0 => of_opening(open(bundle)),
+            0 => Reply::of_opening(open(bundle)),
             1 => view_reply(bundle, row, self.n0),
             2 => instruction_reply(bundle, self.n0, self.n1),
             3 => reading_reply(bundle, self.n0),
-            11 => of_listing(listing(bundle, row)),
-            _ => Reply::alone(Reply::UNKNOWN),
+            11 => listing(bundle, row).reply(),
+            _ => alone(UNKNOWN),
         }
     }
 
@@ -66,17 +61,24 @@ impl Call {
         let entry = self.entry;
         let n0 = self.n0;
         let n1 = self.n1;
-        let n2 = self.n2;
-        let n3 = self.n3;
         let count = self.count;
+        let tuple = Tuple {
+            a0: n1,
+            a1: self.n2,
+            a2: self.n3,
+        };
+        let send = Send {
+            function: n0,
+            tuple,
+        };
         match entry {
-            4 => of_ancestry(ancestry(bundle, scratch, n0, n1)),
-            5 => of_lookup(lookup(bundle, scratch, n0, n1, n2, n3)),
-            6 => of_send_type(send_type(bundle, scratch, row, n0, n1, n2, n3)),
-            7 => of_verdict(check(bundle, scratch)),
-            8 => of_witness(witness(bundle, scratch, n0, n1, n2, n3)),
-            9 => of_run(run(bundle, scratch, n0, n1, n2, n3, count)),
-            10 => of_accepted(run_accepted(bundle, scratch, n0, n1, n2, n3, count)),
+            4 => Reply::of_ancestry(ancestry(bundle, scratch, n0, n1)),
+            5 => Reply::of_lookup(lookup(bundle, scratch, send)),
+            6 => Reply::of_send_type(send_type(bundle, scratch, row, send)),
+            7 => Reply::of_verdict(check(bundle, scratch)),
+            8 => Reply::of_witness(witness(bundle, scratch, n0, tuple)),
+            9 => Reply::of_run(run(bundle, scratch, send, count)),
+            10 => Reply::of_accepted(run_accepted(bundle, scratch, send, count)),
             _ => self.plain_reply(bundle, row),
         }
     }

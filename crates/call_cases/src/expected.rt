@@ -1,7 +1,7 @@
 // What a call has to answer and to leave.
 use crate::block::NUMBERS;
 use crate::block::read_first;
-use crate::reply::Reply;
+use reply::Reply;
 
 // The reply, whether the matrix is in the scratch, and what is written to the row: bytes of the input, then zeros up to a place.
 pub(crate) struct Expected {
@@ -25,22 +25,23 @@ fn clear(row: &mut [u8], from: usize, to: usize) {
 impl Expected {
     pub(crate) fn of_numbers(numbers: [usize; NUMBERS]) -> Expected {
         let reply = Reply {
-            number: numbers[0],
-            beside: numbers[2],
+            number: (numbers[0] % 256) as u8,
             values: [
+                numbers[2],
                 numbers[3],
                 numbers[4],
                 numbers[5],
                 numbers[6],
                 numbers[7],
                 numbers[8],
+                numbers[9],
             ],
         };
         Expected {
             reply,
             fills: numbers[1] == 1,
-            written: numbers[9],
-            zeros_to: numbers[10],
+            written: numbers[10],
+            zeros_to: numbers[11],
         }
     }
 

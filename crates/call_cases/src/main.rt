@@ -8,7 +8,7 @@ mod call;
 mod expected;
 mod lent;
 mod readings;
-mod reply;
+mod replies;
 mod tally;
 
 use block::print;
@@ -21,6 +21,10 @@ use lent::SCRATCH;
 use lent::fill;
 use lent::read_matrix;
 use lent::unwritten_row;
+use replies::UNLENT;
+use replies::alone;
+use replies::is_same;
+use replies::print_reply;
 use reply::Reply;
 use tally::TALLIES;
 use tally::count;
@@ -36,13 +40,11 @@ struct Observed {
 
 impl Observed {
     fn is_expected(self, expected: Reply) -> bool {
-        let reply = self.reply;
-        self.is_row && self.is_scratch && reply.is_same(expected)
+        self.is_row && self.is_scratch && is_same(self.reply, expected)
     }
 
     fn print(self) {
-        let reply = self.reply;
-        reply.print();
+        print_reply(self.reply);
         if !self.is_row {
             print(b" row");
         }
@@ -58,10 +60,10 @@ fn replied(call: Call, bundle: &[u8], scratch: &mut [u8], row: &mut [u8]) -> Rep
     let scratch_len = call.scratch_len;
     let row_len = call.row_len;
     if scratch_len > scratch.len() {
-        return Reply::alone(Reply::UNLENT);
+        return alone(UNLENT);
     }
     if row_len > row.len() {
-        return Reply::alone(Reply::UNLENT);
+        return alone(UNLENT);
     }
     call.reply(bundle, &mut scratch[..scratch_len], &mut row[..row_len])
 }

@@ -1,6 +1,8 @@
 // The body view and the body reader.
-use crate::reply::Reply;
-use crate::reply::of_refusal;
+use crate::replies::UNLENT;
+use crate::replies::UNLIKE;
+use crate::replies::alone;
+use crate::replies::is_same;
 use bytes::copy;
 use curiumtoad::instruction::InstructionAnswer;
 use curiumtoad::instruction::nth_instruction;
@@ -10,6 +12,7 @@ use reader::Reading;
 use reader::nth_reading;
 use reader::place_after;
 use reader::read_at;
+use reply::Reply;
 
 // The record of a refusal and the length of the part, which is copied to the row.
 pub(crate) fn view_reply(bundle: &[u8], row: &mut [u8], method: usize) -> Reply {
@@ -18,17 +21,17 @@ pub(crate) fn view_reply(bundle: &[u8], row: &mut [u8], method: usize) -> Reply 
     let mut place = usize::MAX;
     let part = body_view(bundle, method, &mut refusal, &mut place);
     if part.len() > row.len() {
-        return Reply::alone(Reply::UNLENT);
+        return alone(UNLENT);
     }
     copy(part, row);
-    Reply::pair(refusal as usize, place, part.len())
+    Reply::pair(refusal, place, part.len())
 }
 
 // One more than the operation, and the operand; both are 0 where no instruction is left.
 fn of_reading(reading: Reading) -> Reply {
     match reading {
         Reading::Instruction(instruction) => of_instruction(instruction),
-        Reading::End => Reply::alone(0),
+        Reading::End => alone(0),
     }
 }
 
@@ -42,10 +45,10 @@ fn of_instruction(instruction: Instruction) -> Reply {
 
 // The one of two replies that have to be the same.
 fn agreed(first: Reply, second: Reply) -> Reply {
-    if first.is_same(second) {
+    if is_same(first, second) {
         return first;
     }
-    Reply::alone(Reply::UNLIKE)
+    alone(UNLIKE)
 }
 
 // Any bytes as code, by a reader and without one.
@@ -59,7 +62,7 @@ pub(crate) fn reading_reply(code: &[u8], position: usize) -> Reply {
 fn of_nth(answer: InstructionAnswer) -> Reply {
     match answer {
         InstructionAnswer::Read(reading) => of_reading(reading),
-        InstructionAnswer::Refused(refusal) => of_refusal(refusal),
+        InstructionAnswer::Refused(refusal) => Reply::of_refusal(refusal),
     }
 }
 
@@ -80,7 +83,7 @@ fn by_steps(bundle: &[u8], method: usize, position: usize) -> Reply {
     let mut place = 0usize;
     let code = body_view(bundle, method, &mut refusal, &mut place);
     if refusal != 0 {
-        return Reply::pair(refusal as usize, place, 0);
+        return Reply::pair(refusal, place, 0);
     }
     of_reading(read_at(code, reached(code, position)))
 }

@@ -1,5 +1,6 @@
 // A send as a caller passes it: any function number, and any number for each place.
 use dispatch::send::Send;
+use dispatch::send::Tuple;
 use layout::bundle::Bundle;
 use layout::bytes::byte_at;
 use layout::field::arity;
@@ -13,7 +14,7 @@ ghost use Rattle.rules.specs.Model.{modelOf, present};
 ghost use Rattle.rules.specs.Coverage.{concreteClass};
 ghost use Rattle.rules.specs.Calls.{sendRule, matrixStride};
 ghost use Rattle.layout.specs.Opened.{Opened};
-ghost use Rattle.dispatch.specs.Send.{tupleOf};
+ghost use Rattle.dispatch.specs.Send.{classesOf, tupleOf};
 ghost use Rattle.calls.specs.Send.{fitsPlace, Passes};
 
 // Whether a number is a class at a used place, the first n, or 0 at another.
@@ -48,18 +49,19 @@ fn is_send(bundle: &[u8], b: Bundle, send: Send) -> bool
     if b.functions <= send.function {
         return false;
     }
-    let places = [send.a0, send.a1, send.a2];
+    let tuple = send.tuple;
+    let places = [tuple.a0, tuple.a1, tuple.a2];
     is_tuple(b.classes, arity(bundle, b, send.function), &places)
 }
 
-// The places of a send as bytes: classes have numbers below 128.
-fn class_bytes(send: Send) -> [u8; Bundle::PLACES]
-    requires { ⌜ send .a0 < matrixStride ⌝ }
-    requires { ⌜ send .a1 < matrixStride ⌝ }
-    requires { ⌜ send .a2 < matrixStride ⌝ }
-    ensures { λ r. ⌜ r ≡ tupleOf send ⌝ }
+// A tuple as bytes: classes have numbers below 128.
+fn class_bytes(tuple: Tuple) -> [u8; Bundle::PLACES]
+    requires { ⌜ tuple .a0 < matrixStride ⌝ }
+    requires { ⌜ tuple .a1 < matrixStride ⌝ }
+    requires { ⌜ tuple .a2 < matrixStride ⌝ }
+    ensures { λ r. ⌜ r ≡ classesOf tuple ⌝ }
 {
-    [send.a0 as u8, send.a1 as u8, send.a2 as u8]
+    [tuple.a0 as u8, tuple.a1 as u8, tuple.a2 as u8]
 }
 
 // Whether a send keeps its rule; where it does, the classes at its places, of which the first `count` are used.
@@ -83,7 +85,7 @@ pub(crate) fn classes_of(bundle: &[u8], b: Bundle, send: Send) -> Passed
         };
     }
     let count = arity(bundle, b, send.function);
-    let classes = class_bytes(send);
+    let classes = class_bytes(send.tuple);
     Passed {
         is_send: true,
         count,

@@ -6,11 +6,11 @@ use crate::send::classes_of;
 use coverage::judge::Judgement;
 use coverage::judge::judge;
 use dispatch::send::Send;
+use dispatch::send::Tuple;
 use layout::bundle::Bundle;
 use layout::field::sig_function;
 ghost use mathlib.Core.Path.{_≡_};
 ghost use mathlib.Core.Bool.{_&&_};
-ghost use mathlib.Core.List.{[], _∷_};
 ghost use Prim.Native.Nat.{_<_};
 ghost use Rattle.rules.specs.Bounded.{every};
 ghost use Rattle.rules.specs.Model.{modelOf};
@@ -18,7 +18,7 @@ ghost use Rattle.rules.specs.Coverage.{covers, concreteClass};
 ghost use Rattle.rules.specs.Calls.{witnessIn};
 ghost use Rattle.dispatch.specs.Prepared.{Prepared};
 ghost use Rattle.dispatch.specs.Places.{Arguments};
-ghost use Rattle.dispatch.specs.Send.{tupleOf, sendValues};
+ghost use Rattle.dispatch.specs.Send.{classesOf, tupleOf, sendValues};
 ghost use Rattle.coverage.specs.Judgements.{judgementOf};
 ghost use Rattle.calls.specs.Said.{coverageValues, ruleSaid, witnessSaid};
 
@@ -106,22 +106,15 @@ pub fn witness_in(
     b: Bundle,
     scratch: &[u8],
     signature: usize,
-    a0: usize,
-    a1: usize,
-    a2: usize,
+    tuple: Tuple,
 ) -> WitnessAnswer
     requires { ⌜ Prepared (now bundle) b (now scratch) ⌝ }
-    ensures { λ r. ⌜ witnessSaid r ≡ witnessIn signature (a0 ∷ a1 ∷ a2 ∷ []) (modelOf (now (bundle .entry))) ⌝ }
+    ensures { λ r. ⌜ witnessSaid r ≡ witnessIn signature (classesOf tuple) (modelOf (now (bundle .entry))) ⌝ }
 {
     if b.signatures <= signature {
         return WitnessAnswer::Refused(Refusal::Absent);
     }
     let function = sig_function(bundle, b, signature);
-    let send = Send {
-        function,
-        a0,
-        a1,
-        a2,
-    };
+    let send = Send { function, tuple };
     witness_send(bundle, b, scratch, signature, send)
 }

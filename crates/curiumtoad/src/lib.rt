@@ -15,3 +15,4 @@ pub mod witness;
 
 pub use calls::refusal::Refusal;
 pub use dispatch::send::Send;
+pub use dispatch::send::Tuple;

@@ -6,32 +6,19 @@ pub use calls::lookup::LookupAnswer;
 use calls::lookup::lookup_in;
 use dispatch::send::Send;
 ghost use mathlib.Core.Path.{_≡_};
-ghost use mathlib.Core.List.{[], _∷_};
 ghost use lib.ListN.{length};
 ghost use Rattle.rules.specs.Calls.{lookupCall, scratchAfter};
+ghost use Rattle.dispatch.specs.Send.{tupleOf};
 ghost use Rattle.calls.specs.Said.{lookupSaid};
 
 // What a send of the function with these classes, abstract ones too, finds.
-pub fn lookup(
-    bundle: &[u8],
-    scratch: &mut [u8],
-    function: usize,
-    a0: usize,
-    a1: usize,
-    a2: usize,
-) -> LookupAnswer
-    ensures { λ r. ⌜ lookupSaid r ≡ lookupCall (now (bundle .entry)) (length (now (scratch .entry))) function (a0 ∷ a1 ∷ a2 ∷ []) ⌝ }
+pub fn lookup(bundle: &[u8], scratch: &mut [u8], send: Send) -> LookupAnswer
+    ensures { λ r. ⌜ lookupSaid r ≡ lookupCall (now (bundle .entry)) (length (now (scratch .entry))) (send .function) (tupleOf send) ⌝ }
     ensures { λ r. ⌜ now (scratch .exit) ≡ scratchAfter (now (bundle .entry)) (now (scratch .entry)) ⌝ }
 {
     let prepared = prepare(bundle, scratch);
     let Preparation::Ready(b) = prepared else {
         return LookupAnswer::Refused(refusal(prepared));
-    };
-    let send = Send {
-        function,
-        a0,
-        a1,
-        a2,
     };
     lookup_in(bundle, b, scratch, send)
 }

@@ -6,33 +6,19 @@ pub use calls::run::RunAnswer;
 use calls::run::run_in;
 use dispatch::send::Send;
 ghost use mathlib.Core.Path.{_≡_};
-ghost use mathlib.Core.List.{[], _∷_};
 ghost use lib.ListN.{length};
 ghost use Rattle.rules.specs.Calls.{runCall, scratchAfter};
+ghost use Rattle.dispatch.specs.Send.{tupleOf};
 ghost use Rattle.calls.specs.Said.{runSaid};
 
 // A run of the function with these concrete classes, of no more steps than the count. The bundle has to open, not to be accepted.
-pub fn run(
-    bundle: &[u8],
-    scratch: &mut [u8],
-    function: usize,
-    a0: usize,
-    a1: usize,
-    a2: usize,
-    count: u32,
-) -> RunAnswer
-    ensures { λ r. ⌜ runSaid r ≡ runCall (now (bundle .entry)) (length (now (scratch .entry))) function (a0 ∷ a1 ∷ a2 ∷ []) count ⌝ }
+pub fn run(bundle: &[u8], scratch: &mut [u8], send: Send, count: u32) -> RunAnswer
+    ensures { λ r. ⌜ runSaid r ≡ runCall (now (bundle .entry)) (length (now (scratch .entry))) (send .function) (tupleOf send) count ⌝ }
     ensures { λ r. ⌜ now (scratch .exit) ≡ scratchAfter (now (bundle .entry)) (now (scratch .entry)) ⌝ }
 {
     let prepared = prepare(bundle, scratch);
     let Preparation::Ready(b) = prepared else {
         return RunAnswer::Refused(refusal(prepared));
-    };
-    let send = Send {
-        function,
-        a0,
-        a1,
-        a2,
     };
     run_in(bundle, b, scratch, send, count)
 }

@@ -11,9 +11,9 @@ use dispatch::send::Send;
 use machine::ending::Ending;
 use machine::run::Outcome;
 ghost use mathlib.Core.Path.{_≡_};
-ghost use mathlib.Core.List.{[], _∷_};
 ghost use lib.ListN.{length};
 ghost use Rattle.rules.specs.Calls.{scratchAfter};
+ghost use Rattle.dispatch.specs.Send.{tupleOf};
 ghost use Rattle.machine.specs.Outcome.{outcomeOf};
 ghost use Rattle.curiumtoad.specs.Accepted.{Accepts, Unstopped, Ends, Unended, refusedAs};
 
@@ -59,19 +59,11 @@ fn refused(answer: RunAnswer) -> Refusal
 }
 
 // Runs the send if the bundle is accepted and some signature covers the send.
-pub fn run_accepted(
-    bundle: &[u8],
-    scratch: &mut [u8],
-    function: usize,
-    a0: usize,
-    a1: usize,
-    a2: usize,
-    count: u32,
-) -> AcceptedRun
-    ensures { λ r. ⌜ Accepts (now (bundle .entry)) (length (now (scratch .entry))) function (a0 ∷ a1 ∷ a2 ∷ []) count r ⌝ }
+pub fn run_accepted(bundle: &[u8], scratch: &mut [u8], send: Send, count: u32) -> AcceptedRun
+    ensures { λ r. ⌜ Accepts (now (bundle .entry)) (length (now (scratch .entry))) (send .function) (tupleOf send) count r ⌝ }
     ensures { λ r. ⌜ now (scratch .exit) ≡ scratchAfter (now (bundle .entry)) (now (scratch .entry)) ⌝ }
 {
-    let both = checked_run(bundle, scratch, function, a0, a1, a2, count);
+    let both = checked_run(bundle, scratch, send, count);
     let answer = both.outcome;
     let RunAnswer::Ended(outcome) = answer else {
         return AcceptedRun::Refused(refused(answer));
@@ -83,12 +75,6 @@ pub fn run_accepted(
     let opening = open(bundle);
     let Opening::Opened(b) = opening else {
         return AcceptedRun::NotCovered;
-    };
-    let send = Send {
-        function,
-        a0,
-        a1,
-        a2,
     };
     if !is_covered(bundle, b, scratch, send) {
         return AcceptedRun::NotCovered;

@@ -1,6 +1,2 @@
-pub mod Replies
-pub mod Fitting
-pub mod Within
-pub mod Verdicts
-pub mod Stepping
-pub mod Accepting
+pub mod Handing
+pub mod Placing

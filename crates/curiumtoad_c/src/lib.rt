@@ -1,18 +1,10 @@
 // The entry points for C, and for Rust outside the kit. Each function returns the number of its answer (M 11), 0 where nothing is refused, and writes eight values;
 // include/curiumtoad.h says which. Whatever is passed, an answer comes back.
 mod body;
-mod reply;
 
 use crate::body::body_place;
-use crate::reply::give;
-use crate::reply::of_accepted;
-use crate::reply::of_ancestry;
-use crate::reply::of_lookup;
-use crate::reply::of_opening;
-use crate::reply::of_run;
-use crate::reply::of_send_type;
-use crate::reply::of_verdict;
-use crate::reply::of_witness;
+use curiumtoad::Send;
+use curiumtoad::Tuple;
 use curiumtoad::ancestry::ancestry;
 use curiumtoad::check::check;
 use curiumtoad::lookup::lookup;
@@ -21,19 +13,38 @@ use curiumtoad::run::run;
 use curiumtoad::run_accepted::run_accepted;
 use curiumtoad::send_type::send_type;
 use curiumtoad::witness::witness;
+use reply::Reply;
+use text::listing::listing;
 ghost use mathlib.Core.Path.{_≡_};
 ghost use mathlib.Core.List.{[], _∷_};
 ghost use lib.ListN.{length};
 ghost use Rattle.rules.specs.Calls.{openingCall, ancestryCall, lookupCall, sendTypeCall, witnessCall, bodyViewCall, runCall, scratchAfter, rowAfter};
-ghost use Rattle.curiumtoad_c.specs.Exported.{exportedNumber, exportedValues, nothing, counts, yesOrNo, method, placed, outcomeValues, runNumber, ChecksAs, AcceptsAs};
+ghost use Rattle.reply.specs.Replies.{reply, nothing, counts, yesOrNo, method, runReply};
+ghost use Rattle.curiumtoad_c.specs.Exported.{version, Handed, placed, ChecksAs, AcceptsAs, ListsAs};
+
+// Writes the values, and gives the number.
+fn give(values: &mut [usize; 8], reply: Reply) -> u8
+    ensures { λ r. ⌜ Handed reply r (now (values .exit)) ⌝ }
+{
+    let all = reply.values;
+    *values = all;
+    reply.number
+}
+
+// The version that a caller compares with that of its header.
+#[no_mangle]
+pub extern "C" fn curiumtoad_version() -> u32
+    ensures { λ r. ⌜ r ≡ version ⌝ }
+{
+    1
+}
 
 // Opening: the four counts.
 #[no_mangle]
-pub extern "C" fn curiumtoad_open(bundle: &[u8], values: &mut [u32; 8]) -> u8
-    ensures { λ r. ⌜ r ≡ exportedNumber (openingCall (now (bundle .entry))) ⌝ }
-    ensures { λ r. ⌜ now (values .exit) ≡ exportedValues counts (openingCall (now (bundle .entry))) ⌝ }
+pub extern "C" fn curiumtoad_open(bundle: &[u8], values: &mut [usize; 8]) -> u8
+    ensures { λ r. ⌜ Handed (reply counts (openingCall (now (bundle .entry)))) r (now (values .exit)) ⌝ }
 {
-    give(values, of_opening(open(bundle)))
+    give(values, Reply::of_opening(open(bundle)))
 }
 
 // The ancestry question: 1 for yes, 0 for no.
@@ -41,16 +52,15 @@ pub extern "C" fn curiumtoad_open(bundle: &[u8], values: &mut [u32; 8]) -> u8
 pub extern "C" fn curiumtoad_ancestry(
     bundle: &[u8],
     scratch: &mut [u8],
-    a: u32,
-    b: u32,
-    values: &mut [u32; 8],
+    a: usize,
+    b: usize,
+    values: &mut [usize; 8],
 ) -> u8
-    ensures { λ r. ⌜ r ≡ exportedNumber (ancestryCall (now (bundle .entry)) (length (now (scratch .entry))) a b) ⌝ }
-    ensures { λ r. ⌜ now (values .exit) ≡ exportedValues yesOrNo (ancestryCall (now (bundle .entry)) (length (now (scratch .entry))) a b) ⌝ }
+    ensures { λ r. ⌜ Handed (reply yesOrNo (ancestryCall (now (bundle .entry)) (length (now (scratch .entry))) a b)) r (now (values .exit)) ⌝ }
     ensures { λ r. ⌜ now (scratch .exit) ≡ scratchAfter (now (bundle .entry)) (now (scratch .entry)) ⌝ }
 {
-    let answer = ancestry(bundle, scratch, a as usize, b as usize);
-    give(values, of_ancestry(answer))
+    let answer = ancestry(bundle, scratch, a, b);
+    give(values, Reply::of_ancestry(answer))
 }
 
 // Lookup: the method found.
@@ -58,25 +68,19 @@ pub extern "C" fn curiumtoad_ancestry(
 pub extern "C" fn curiumtoad_lookup(
     bundle: &[u8],
     scratch: &mut [u8],
-    function: u32,
-    a0: u32,
-    a1: u32,
-    a2: u32,
-    values: &mut [u32; 8],
+    function: usize,
+    a0: usize,
+    a1: usize,
+    a2: usize,
+    values: &mut [usize; 8],
 ) -> u8
-    ensures { λ r. ⌜ r ≡ exportedNumber (lookupCall (now (bundle .entry)) (length (now (scratch .entry))) function (a0 ∷ a1 ∷ a2 ∷ [])) ⌝ }
-    ensures { λ r. ⌜ now (values .exit) ≡ exportedValues method (lookupCall (now (bundle .entry)) (length (now (scratch .entry))) function (a0 ∷ a1 ∷ a2 ∷ [])) ⌝ }
+    ensures { λ r. ⌜ Handed (reply method (lookupCall (now (bundle .entry)) (length (now (scratch .entry))) function (a0 ∷ a1 ∷ a2 ∷ []))) r (now (values .exit)) ⌝ }
     ensures { λ r. ⌜ now (scratch .exit) ≡ scratchAfter (now (bundle .entry)) (now (scratch .entry)) ⌝ }
 {
-    let answer = lookup(
-        bundle,
-        scratch,
-        function as usize,
-        a0 as usize,
-        a1 as usize,
-        a2 as usize,
-    );
-    give(values, of_lookup(answer))
+    let tuple = Tuple { a0, a1, a2 };
+    let send = Send { function, tuple };
+    let answer = lookup(bundle, scratch, send);
+    give(values, Reply::of_lookup(answer))
 }
 
 // The send type: the type is in the row.
@@ -85,27 +89,20 @@ pub extern "C" fn curiumtoad_send_type(
     bundle: &[u8],
     scratch: &mut [u8],
     row: &mut [u8],
-    function: u32,
-    a0: u32,
-    a1: u32,
-    a2: u32,
-    values: &mut [u32; 8],
+    function: usize,
+    a0: usize,
+    a1: usize,
+    a2: usize,
+    values: &mut [usize; 8],
 ) -> u8
-    ensures { λ r. ⌜ r ≡ exportedNumber (sendTypeCall (now (bundle .entry)) (length (now (scratch .entry))) (length (now (row .entry))) function (a0 ∷ a1 ∷ a2 ∷ [])) ⌝ }
-    ensures { λ r. ⌜ now (values .exit) ≡ exportedValues nothing (sendTypeCall (now (bundle .entry)) (length (now (scratch .entry))) (length (now (row .entry))) function (a0 ∷ a1 ∷ a2 ∷ [])) ⌝ }
+    ensures { λ r. ⌜ Handed (reply nothing (sendTypeCall (now (bundle .entry)) (length (now (scratch .entry))) (length (now (row .entry))) function (a0 ∷ a1 ∷ a2 ∷ []))) r (now (values .exit)) ⌝ }
     ensures { λ r. ⌜ now (scratch .exit) ≡ scratchAfter (now (bundle .entry)) (now (scratch .entry)) ⌝ }
     ensures { λ r. ⌜ now (row .exit) ≡ rowAfter (now (bundle .entry)) (length (now (scratch .entry))) (now (row .entry)) function (a0 ∷ a1 ∷ a2 ∷ []) ⌝ }
 {
-    let answer = send_type(
-        bundle,
-        scratch,
-        row,
-        function as usize,
-        a0 as usize,
-        a1 as usize,
-        a2 as usize,
-    );
-    give(values, of_send_type(answer))
+    let tuple = Tuple { a0, a1, a2 };
+    let send = Send { function, tuple };
+    let answer = send_type(bundle, scratch, row, send);
+    give(values, Reply::of_send_type(answer))
 }
 
 // The witness check: the rule holds, or 10 to 13.
@@ -113,44 +110,36 @@ pub extern "C" fn curiumtoad_send_type(
 pub extern "C" fn curiumtoad_witness(
     bundle: &[u8],
     scratch: &mut [u8],
-    signature: u32,
-    a0: u32,
-    a1: u32,
-    a2: u32,
-    values: &mut [u32; 8],
+    signature: usize,
+    a0: usize,
+    a1: usize,
+    a2: usize,
+    values: &mut [usize; 8],
 ) -> u8
-    ensures { λ r. ⌜ r ≡ exportedNumber (witnessCall (now (bundle .entry)) (length (now (scratch .entry))) signature (a0 ∷ a1 ∷ a2 ∷ [])) ⌝ }
-    ensures { λ r. ⌜ now (values .exit) ≡ exportedValues nothing (witnessCall (now (bundle .entry)) (length (now (scratch .entry))) signature (a0 ∷ a1 ∷ a2 ∷ [])) ⌝ }
+    ensures { λ r. ⌜ Handed (reply nothing (witnessCall (now (bundle .entry)) (length (now (scratch .entry))) signature (a0 ∷ a1 ∷ a2 ∷ []))) r (now (values .exit)) ⌝ }
     ensures { λ r. ⌜ now (scratch .exit) ≡ scratchAfter (now (bundle .entry)) (now (scratch .entry)) ⌝ }
 {
-    let answer = witness(
-        bundle,
-        scratch,
-        signature as usize,
-        a0 as usize,
-        a1 as usize,
-        a2 as usize,
-    );
-    give(values, of_witness(answer))
+    let tuple = Tuple { a0, a1, a2 };
+    let answer = witness(bundle, scratch, signature, tuple);
+    give(values, Reply::of_witness(answer))
 }
 
 // The body view: where the method's code begins within the bundle, and its length.
 #[no_mangle]
-pub extern "C" fn curiumtoad_body(bundle: &[u8], method: u32, values: &mut [u32; 8]) -> u8
-    ensures { λ r. ⌜ r ≡ exportedNumber (bodyViewCall (now (bundle .entry)) method) ⌝ }
-    ensures { λ r. ⌜ now (values .exit) ≡ exportedValues (placed (now (bundle .entry)) method) (bodyViewCall (now (bundle .entry)) method) ⌝ }
+pub extern "C" fn curiumtoad_body(bundle: &[u8], method: usize, values: &mut [usize; 8]) -> u8
+    ensures { λ r. ⌜ Handed (reply (placed (now (bundle .entry)) method) (bodyViewCall (now (bundle .entry)) method)) r (now (values .exit)) ⌝ }
 {
-    give(values, body_place(bundle, method as usize))
+    give(values, body_place(bundle, method))
 }
 
 // The check of the whole bundle: accepted, or what is broken.
 #[no_mangle]
-pub extern "C" fn curiumtoad_check(bundle: &[u8], scratch: &mut [u8], values: &mut [u32; 8]) -> u8
+pub extern "C" fn curiumtoad_check(bundle: &[u8], scratch: &mut [u8], values: &mut [usize; 8]) -> u8
     ensures { λ r. ⌜ ChecksAs (now (bundle .entry)) (length (now (scratch .entry))) r (now (values .exit)) ⌝ }
     ensures { λ r. ⌜ now (scratch .exit) ≡ scratchAfter (now (bundle .entry)) (now (scratch .entry)) ⌝ }
 {
     let verdict = check(bundle, scratch);
-    give(values, of_verdict(verdict))
+    give(values, Reply::of_verdict(verdict))
 }
 
 // A run: its ending, and the steps made.
@@ -158,27 +147,20 @@ pub extern "C" fn curiumtoad_check(bundle: &[u8], scratch: &mut [u8], values: &m
 pub extern "C" fn curiumtoad_run(
     bundle: &[u8],
     scratch: &mut [u8],
-    function: u32,
-    a0: u32,
-    a1: u32,
-    a2: u32,
+    function: usize,
+    a0: usize,
+    a1: usize,
+    a2: usize,
     count: u32,
-    values: &mut [u32; 8],
+    values: &mut [usize; 8],
 ) -> u8
-    ensures { λ r. ⌜ r ≡ runNumber (runCall (now (bundle .entry)) (length (now (scratch .entry))) function (a0 ∷ a1 ∷ a2 ∷ []) count) ⌝ }
-    ensures { λ r. ⌜ now (values .exit) ≡ exportedValues outcomeValues (runCall (now (bundle .entry)) (length (now (scratch .entry))) function (a0 ∷ a1 ∷ a2 ∷ []) count) ⌝ }
+    ensures { λ r. ⌜ Handed (runReply (runCall (now (bundle .entry)) (length (now (scratch .entry))) function (a0 ∷ a1 ∷ a2 ∷ []) count)) r (now (values .exit)) ⌝ }
     ensures { λ r. ⌜ now (scratch .exit) ≡ scratchAfter (now (bundle .entry)) (now (scratch .entry)) ⌝ }
 {
-    let answer = run(
-        bundle,
-        scratch,
-        function as usize,
-        a0 as usize,
-        a1 as usize,
-        a2 as usize,
-        count,
-    );
-    give(values, of_run(answer))
+    let tuple = Tuple { a0, a1, a2 };
+    let send = Send { function, tuple };
+    let answer = run(bundle, scratch, send, count);
+    give(values, Reply::of_run(answer))
 }
 
 // A run of an accepted bundle whose opening send some signature covers.
@@ -186,24 +168,27 @@ pub extern "C" fn curiumtoad_run(
 pub extern "C" fn curiumtoad_run_accepted(
     bundle: &[u8],
     scratch: &mut [u8],
-    function: u32,
-    a0: u32,
-    a1: u32,
-    a2: u32,
+    function: usize,
+    a0: usize,
+    a1: usize,
+    a2: usize,
     count: u32,
-    values: &mut [u32; 8],
+    values: &mut [usize; 8],
 ) -> u8
     ensures { λ r. ⌜ AcceptsAs (now (bundle .entry)) (length (now (scratch .entry))) function (a0 ∷ a1 ∷ a2 ∷ []) count r (now (values .exit)) ⌝ }
     ensures { λ r. ⌜ now (scratch .exit) ≡ scratchAfter (now (bundle .entry)) (now (scratch .entry)) ⌝ }
 {
-    let answer = run_accepted(
-        bundle,
-        scratch,
-        function as usize,
-        a0 as usize,
-        a1 as usize,
-        a2 as usize,
-        count,
-    );
-    give(values, of_accepted(answer))
+    let tuple = Tuple { a0, a1, a2 };
+    let send = Send { function, tuple };
+    let answer = run_accepted(bundle, scratch, send, count);
+    give(values, Reply::of_accepted(answer))
+}
+
+// The listing: its length, with the text in the buffer; or 20, and the buffer is as it was. 512 bytes are enough for any.
+#[no_mangle]
+pub extern "C" fn curiumtoad_listing(bundle: &[u8], text: &mut [u8], values: &mut [usize; 8]) -> u8
+    ensures { λ r. ⌜ ListsAs (now (bundle .entry)) (now (text .entry)) (now (text .exit)) r (now (values .exit)) ⌝ }
+{
+    let answer = listing(bundle, text);
+    give(values, answer.reply())
 }

@@ -2,11 +2,16 @@
 -- Assumes nothing.
 use Prim.Native.Nat.{ℕ}
 use mathlib.Core.List.{List, [], _∷_}
+use Rattle.dispatch.specs.declared.send.Tuple as tuple-type
 use Rattle.dispatch.specs.declared.send.Send as send-type
 
--- its places
+-- the classes at the places
+abbrev pub classesOf : tuple-type.Tuple → List ℕ
+classesOf t = t .a0 ∷ t .a1 ∷ t .a2 ∷ []
+
+-- those of a send
 abbrev pub tupleOf : send-type.Send → List ℕ
-tupleOf s = s .a0 ∷ s .a1 ∷ s .a2 ∷ []
+tupleOf s = classesOf (s .tuple)
 
 -- the function, and its places
 abbrev pub sendValues : send-type.Send → List ℕ

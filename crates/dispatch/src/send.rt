@@ -7,12 +7,17 @@ ghost use lib.ListN.{length};
 ghost use Rattle.rules.specs.Layout.{places, padded};
 ghost use Rattle.dispatch.specs.Send.{sendValues};
 
-// The function and the argument classes, unused places 0.
-pub struct Send {
-    pub function: usize,
+// A class for each place, unused places 0.
+pub struct Tuple {
     pub a0: usize,
     pub a1: usize,
     pub a2: usize,
+}
+
+// The function and its argument classes.
+pub struct Send {
+    pub function: usize,
+    pub tuple: Tuple,
 }
 
 impl Send {
@@ -24,11 +29,7 @@ impl Send {
         let a0 = class_at(args, 0);
         let a1 = class_at(args, 1);
         let a2 = class_at(args, 2);
-        Send {
-            function,
-            a0,
-            a1,
-            a2,
-        }
+        let tuple = Tuple { a0, a1, a2 };
+        Send { function, tuple }
     }
 }

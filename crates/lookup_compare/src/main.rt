@@ -12,6 +12,8 @@ mod record;
 
 use answer::Answer;
 use bundle_rules::finding::Opening;
+use curiumtoad::Send;
+use curiumtoad::Tuple;
 use curiumtoad::opening::open;
 use generator::draw;
 use made::Plan;
@@ -168,14 +170,14 @@ fn stride(classes: usize, arity: usize) -> usize
 }
 
 // The question that a tuple's number stands for.
-fn question_of(is_lookup: bool, function: usize, tuple: usize) -> Question {
-    Question {
-        is_lookup,
-        function,
-        a0: tuple % 128,
-        a1: tuple / 128 % 128,
-        a2: tuple / 16384,
-    }
+fn question_of(is_lookup: bool, function: usize, number: usize) -> Question {
+    let tuple = Tuple {
+        a0: number % 128,
+        a1: number / 128 % 128,
+        a2: number / 16384,
+    };
+    let send = Send { function, tuple };
+    Question { is_lookup, send }
 }
 
 fn is_present(tuple: usize, classes: usize) -> bool {

@@ -10,13 +10,10 @@ use curiumtoad::ancestry::ancestry;
 use curiumtoad::lookup::LookupAnswer;
 use curiumtoad::lookup::lookup;
 
-// Lookup of a function and a class for each place, or ancestry of the classes at the first two. All of them are there, and unused places hold 0.
+// Lookup of a send, or ancestry of the classes at its first two places. All of them are there, and unused places hold 0.
 pub(crate) struct Question {
     pub(crate) is_lookup: bool,
-    pub(crate) function: usize,
-    pub(crate) a0: usize,
-    pub(crate) a1: usize,
-    pub(crate) a2: usize,
+    pub(crate) send: Send,
 }
 
 fn one_if(holds: bool) -> usize {
@@ -34,14 +31,19 @@ fn of_ancestry(answer: AncestryAnswer) -> Answer {
     }
 }
 
+fn is_same(send: Send, other: Send) -> bool {
+    let tuple = send.tuple;
+    let others = other.tuple;
+    send.function == other.function
+        && tuple.a0 == others.a0
+        && tuple.a1 == others.a1
+        && tuple.a2 == others.a2
+}
+
 impl Question {
     // A reason, which has to name the send that is asked for.
     fn reason(self, send: Send, number: usize, first: usize, second: usize) -> Answer {
-        if send.function == self.function
-            && send.a0 == self.a0
-            && send.a1 == self.a1
-            && send.a2 == self.a2
-        {
+        if is_same(send, self.send) {
             return Answer::of(number, first, second);
         }
         Answer::of(Answer::OTHER_SEND, number, 0)
@@ -57,39 +59,38 @@ impl Question {
     }
 
     pub(crate) fn answer(self, bundle: &[u8], scratch: &mut [u8]) -> Answer {
+        let send = self.send;
         if self.is_lookup {
-            return self.of_lookup(lookup(
-                bundle,
-                scratch,
-                self.function,
-                self.a0,
-                self.a1,
-                self.a2,
-            ));
+            return self.of_lookup(lookup(bundle, scratch, send));
         }
-        of_ancestry(ancestry(bundle, scratch, self.a0, self.a1))
+        let tuple = send.tuple;
+        of_ancestry(ancestry(bundle, scratch, tuple.a0, tuple.a1))
     }
 
     pub(crate) fn second_answer(self, bundle: &[u8]) -> Answer {
+        let send = self.send;
+        let tuple = send.tuple;
         if self.is_lookup {
             let args = Places {
-                p0: self.a0,
-                p1: self.a1,
-                p2: self.a2,
+                p0: tuple.a0,
+                p1: tuple.a1,
+                p2: tuple.a2,
             };
-            return crate::lookup::lookup(bundle, self.function, args);
+            return crate::lookup::lookup(bundle, send.function, args);
         }
-        Answer::of(0, one_if(is_under(bundle, self.a0, self.a1)), 0)
+        Answer::of(0, one_if(is_under(bundle, tuple.a0, tuple.a1)), 0)
     }
 
     pub(crate) fn print(self) {
+        let send = self.send;
+        let tuple = send.tuple;
         if self.is_lookup {
-            print_count(b" lookup ", self.function as u64);
+            print_count(b" lookup ", send.function as u64);
         } else {
             print(b" ancestry");
         }
-        print_count(b" ", self.a0 as u64);
-        print_count(b" ", self.a1 as u64);
-        print_count(b" ", self.a2 as u64);
+        print_count(b" ", tuple.a0 as u64);
+        print_count(b" ", tuple.a1 as u64);
+        print_count(b" ", tuple.a2 as u64);
     }
 }

@@ -1,4 +1,4 @@
--- Subclassing: the test agrees with the paper's relation on the classes of the bundle, and is a partial order there with class 0 at the top.
+-- Subclassing: the test agrees with the relation of the rules on the classes of the bundle, and is a partial order there with class 0 at the top.
 -- Assumes nothing.
 use Prim.Native.Nat.{ℕ, zero, suc, _≤_, _<_}
 use native.Mathlib.Nat.{not-suc-le-zero, eq-zero-or-pos, lt-trans}

@@ -3,12 +3,13 @@
 use Prim.Native.Nat.{ℕ, _≤_}
 use native.Mathlib.Omega.{arith}
 use mathlib.Core.Path.{_≡_, sym, ap, _∙_}
-use mathlib.Core.List.{List, [], _∷_, _++_, append-assoc}
+use mathlib.Core.List.{List, _∷_, _++_, append-assoc}
 use lib.ListN.{take}
 use lib.Seq.{take-append-le}
 use Rattle.rules.specs.Model.{Model}
 use Rattle.rules.specs.Layout.{refuses}
 use Rattle.dispatch.specs.declared.send.Send as send-type
+use Rattle.dispatch.specs.Send.{tupleOf, sendValues}
 use Rattle.calls.specs.declared.witness.CoverageFinding as coverage-type
 use Rattle.calls.specs.Said.{coverageSaid}
 use Rattle.text.specs.Ascii.{ascii}
@@ -26,24 +27,23 @@ regrouped r s f c m end =
     ∙ append-assoc r (s ++ f ++ c) m)
 
 -- the line of 10 to 13: number, signature, send, methods
-pub coverage-text : (M : Model) (number s f a₀ a₁ a₂ n : ℕ) (ms : List ℕ) → M .arity f ≡ n → n ≤ 3
-    → field "refused " number ++ field " signature " s ++ field " send " f ++ classes (take n (a₀ ∷ a₁ ∷ a₂ ∷ [])) ++ (methods ms ++ ascii "\n")
-    ≡ refusedLine M number (s ∷ f ∷ a₀ ∷ a₁ ∷ a₂ ∷ ms)
+coverage-text : (M : Model) (number s n : ℕ) (x : send-type.Send) (ms : List ℕ) → M .arity (x .function) ≡ n → n ≤ 3
+    → field "refused " number ++ field " signature " s ++ field " send " (x .function) ++ classes (take n (tupleOf x)) ++ (methods ms ++ ascii "\n")
+    ≡ refusedLine M number (s ∷ sendValues x ++ ms)
 unfolding finding refusedLine
-coverage-text M number s f a₀ a₁ a₂ n ms e h =
-    regrouped (field "refused " number) (field " signature " s) (field " send " f) (classes (take n (a₀ ∷ a₁ ∷ a₂ ∷ []))) (methods ms) (ascii "\n")
+coverage-text M number s n x ms e h =
+    regrouped (field "refused " number) (field " signature " s) (field " send " (x .function)) (classes (take n (tupleOf x))) (methods ms) (ascii "\n")
     ∙ ap
-    (λ (l : List ℕ). field "refused " number ++ (field " signature " s ++ field " send " f ++ classes l ++ methods ms) ++ ascii "\n")
-    (sym (take-append-le n (a₀ ∷ a₁ ∷ a₂ ∷ []) ms h) ∙ ap (λ (k : ℕ). take k (a₀ ∷ a₁ ∷ a₂ ∷ ms)) (sym e))
+    (λ (l : List ℕ). field "refused " number ++ (field " signature " s ++ field " send " (x .function) ++ classes l ++ methods ms) ++ ascii "\n")
+    (sym (take-append-le n (tupleOf x) ms h) ∙ ap (λ (k : ℕ). take k (tupleOf x ++ ms)) (sym e))
 
 -- the start of the line is written, then its end
 pub coverage-written : (M : Model) (found : coverage-type.CoverageFinding) (number s n : ℕ) (x : send-type.Send) (ms : List ℕ) {k at q r : ℕ} {old mid new : List ℕ}
-    → coverageSaid found ≡ refuses number (s ∷ x .function ∷ x .a0 ∷ x .a1 ∷ x .a2 ∷ ms) → M .arity (x .function) ≡ n → n ≤ 3 → k ≤ 76
-    → Appended 192 old at
-    (field "refused " number ++ field " signature " s ++ field " send " (x .function) ++ classes (take n (x .a0 ∷ x .a1 ∷ x .a2 ∷ []))) mid q
+    → coverageSaid found ≡ refuses number (s ∷ sendValues x ++ ms) → M .arity (x .function) ≡ n → n ≤ 3 → k ≤ 76
+    → Appended 192 old at (field "refused " number ++ field " signature " s ++ field " send " (x .function) ++ classes (take n (tupleOf x))) mid q
     → Appended k mid q (methods ms ++ ascii "\n") new r → Appended 268 old at (verdictLine M (coverageSaid found)) new r
 unfolding verdictLine
 coverage-written M found number s n x ms e arity few room start end =
     grown-as
-    (coverage-text M number s (x .function) (x .a0) (x .a1) (x .a2) n ms arity few ∙ ap (verdictLine M) (sym e))
+    (coverage-text M number s n x ms arity few ∙ ap (verdictLine M) (sym e))
     (grown-wider 268 (omega (arith, room)) (grown-both start end))

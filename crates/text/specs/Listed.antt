@@ -2,7 +2,7 @@
 -- Assumes nothing.
 use Prim.Native.Nat.{ℕ, _≤_, _<_}
 use mathlib.Core.Path.{_≡_}
-use mathlib.Core.List.{List, _++_}
+use mathlib.Core.List.{List, [], _∷_, _++_}
 use lib.ListN.{length, take, drop}
 use Rattle.rules.specs.Model.{Model, modelOf}
 use Rattle.rules.specs.Coverage.{NamesBroken}
@@ -17,6 +17,8 @@ use Rattle.calls.specs.declared.check.Finding.the-variants as finding
 use Rattle.calls.specs.declared.check.Verdict as verdict-type
 use Rattle.calls.specs.declared.check.Verdict.the-variants as verdict
 use Rattle.calls.specs.Answers.{numberOf, valuesOf}
+use Rattle.reply.specs.declared.Reply.{Reply}
+use Rattle.reply.specs.Replies.{numbered}
 use Rattle.text.specs.declared.listing.ListingAnswer as listing-type
 use Rattle.text.specs.declared.listing.ListingAnswer.the-variants as listing
 use Rattle.text.specs.Text.{refusedLine, listingNaming}
@@ -72,3 +74,8 @@ pub record Lists (b : List ℕ) (old new : List ℕ) (r : listing-type.ListingAn
   pub args : List ℕ
   pub names : NamesBroken (modelOf b) args
   pub written : Written (listingNaming b args) old new r
+
+-- the answer as a reply: the length, or the number of a row that is too short
+abbrev pub listingReply : listing-type.ListingAnswer → Reply
+listingReply (listing.Written n) = numbered 0 (n ∷ [])
+listingReply listing.Short = numbered 20 []

@@ -19,6 +19,7 @@ ghost use lib.ListN.{length, take};
 ghost use Rattle.rules.specs.Model.{Model, modelOf};
 ghost use Rattle.bundle_rules.specs.Opening.{saidOf};
 ghost use Rattle.layout.specs.Opened.{Opened};
+ghost use Rattle.dispatch.specs.Send.{tupleOf};
 ghost use Rattle.calls.specs.Answers.{valuesOf};
 ghost use Rattle.calls.specs.Said.{coverageSaid, verdictSaid};
 ghost use Rattle.text.specs.Ascii.{ascii};
@@ -85,9 +86,10 @@ fn put_send(
 ) -> usize
     requires { ⌜ n ≤ 3 ⌝ }
     requires { ⌜ at + 192 ≤ length (now text) ⌝ }
-    ensures { λ r. ⌜ Appended 192 (now (text .entry)) at (field "refused " refusal ++ field " signature " signature ++ field " send " (send .function) ++ classes (take n (send .a0 ∷ send .a1 ∷ send .a2 ∷ []))) (now (text .exit)) r ⌝ }
+    ensures { λ r. ⌜ Appended 192 (now (text .entry)) at (field "refused " refusal ++ field " signature " signature ++ field " send " (send .function) ++ classes (take n (tupleOf send))) (now (text .exit)) r ⌝ }
 {
-    let args = [send.a0, send.a1, send.a2];
+    let tuple = send.tuple;
+    let args = [tuple.a0, tuple.a1, tuple.a2];
     let p = put_field(text, at, b"refused ", refusal);
     let q = put_field(text, p, b" signature ", signature);
     let end = put_field(text, q, b" send ", send.function);

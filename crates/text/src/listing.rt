@@ -9,16 +9,29 @@ use curiumtoad::check::check;
 use curiumtoad::opening::open;
 use dispatch::matrix::BYTES;
 use layout::bundle::Bundle;
+use reply::Reply;
 ghost use mathlib.Core.Path.{_≡_};
 ghost use Prim.Native.Nat.{_≤_};
 ghost use lib.ListN.{length};
 ghost use Rattle.rules.specs.Calls.{scratchBytes};
-ghost use Rattle.text.specs.Listed.{OpenedAs, Composed, Told, Lists};
+ghost use Rattle.text.specs.Listed.{OpenedAs, Composed, Told, Lists, listingReply};
 
 // The text is at the start of the buffer, so many bytes; or the buffer is too short, and untouched.
 pub enum ListingAnswer {
     Written(usize),
     Short,
+}
+
+impl ListingAnswer {
+    // The length, or 20 as for a row that is too short.
+    pub fn reply(self) -> Reply
+        ensures { λ r. ⌜ r ≡ listingReply self ⌝ }
+    {
+        match self {
+            ListingAnswer::Written(n) => Reply::pair(0, n, 0),
+            ListingAnswer::Short => Reply::pair(20, 0, 0),
+        }
+    }
 }
 
 // Room for the longest listing.

@@ -9,7 +9,7 @@ use curiumtoad::raw;
 use std::hint::black_box;
 use std::time::Duration;
 
-type Reply = (u8, [u32; 8]);
+type Reply = (u8, [u64; 8]);
 
 /// One line of the table: the same calls by the library and by the peers that have them.
 struct Case {
@@ -18,7 +18,7 @@ struct Case {
     plain: Option<Call>,
     fast: Option<Call>,
     /// The number and first value that every call has to give.
-    expected: (u8, Option<u32>),
+    expected: (u8, Option<u64>),
 }
 
 type Call = Box<dyn FnMut() -> Reply>;
@@ -90,7 +90,7 @@ fn lookup_case(name: &'static str, bundle: Vec<u8>) -> Case {
     }
 }
 
-fn next([a, b, c]: [u32; 3]) -> [u32; 3] {
+fn next([a, b, c]: [u64; 3]) -> [u64; 3] {
     [(a + 1) % 128, (b + 1 + a / 127) % 128, (c + 3) % 128]
 }
 
@@ -128,7 +128,7 @@ fn run_case(name: &'static str, bundle: Vec<u8>) -> Case {
     }
 }
 
-fn by_library(call: impl FnOnce(&mut [u32; 8]) -> u8) -> Reply {
+fn by_library(call: impl FnOnce(&mut [u64; 8]) -> u8) -> Reply {
     let mut values = [0; 8];
     (call(&mut values), values)
 }

@@ -9,15 +9,20 @@ use std::ops::Range;
 #[derive(Clone, Copy, Debug)]
 pub enum Call {
     Open,
-    Ancestry(u32, u32),
-    Lookup(u32, [u32; 3]),
-    SendType(u32, [u32; 3]),
+    Ancestry(u64, u64),
+    Lookup(u64, [u64; 3]),
+    SendType(u64, [u64; 3]),
     Check,
-    Witness(u32, [u32; 3]),
-    Body(u32),
-    Run(u32, [u32; 3], u32),
-    RunAccepted(u32, [u32; 3], u32),
+    Witness(u64, [u64; 3]),
+    Body(u64),
+    Run(u64, [u64; 3], u32),
+    RunAccepted(u64, [u64; 3], u32),
+    /// With the length of the text's buffer.
+    Listing(usize),
 }
+
+/// What a call may be lent: a scratch, a row, and a buffer for a text.
+pub type Buffers<'a> = [&'a mut [u8]; 3];
 
 impl Call {
     fn name(&self) -> &'static str {
@@ -31,11 +36,12 @@ impl Call {
             Call::Body(..) => "body",
             Call::Run(..) => "run",
             Call::RunAccepted(..) => "run_accepted",
+            Call::Listing(..) => "listing",
         }
     }
 
     /// The call by the plain implementation.
-    pub fn by_plain(&self, bundle: &[u8], scratch: &mut [u8], row: &mut [u8]) -> plain::Reply {
+    pub fn by_plain(&self, bundle: &[u8], [scratch, row, text]: Buffers) -> plain::Reply {
         match *self {
             Call::Open => plain::open(bundle),
             Call::Ancestry(a, b) => plain::ancestry(bundle, scratch, a, b),
@@ -48,11 +54,12 @@ impl Call {
             Call::RunAccepted(function, arguments, count) => {
                 plain::run_accepted(bundle, scratch, function, arguments, count)
             }
+            Call::Listing(_) => plain::listing(bundle, text),
         }
     }
 
     /// The call by the library, as numbers.
-    pub fn by_library(&self, bundle: &[u8], scratch: &mut [u8], row: &mut [u8], values: &mut raw::Values) -> u8 {
+    pub fn by_library(&self, bundle: &[u8], [scratch, row, text]: Buffers, values: &mut raw::Values) -> u8 {
         match *self {
             Call::Open => raw::open(bundle, values),
             Call::Ancestry(a, b) => raw::ancestry(bundle, scratch, a, b, values),
@@ -65,6 +72,7 @@ impl Call {
             Call::RunAccepted(function, arguments, count) => {
                 raw::run_accepted(bundle, scratch, function, arguments, count, values)
             }
+            Call::Listing(_) => raw::listing(bundle, text, values),
         }
     }
 
@@ -83,6 +91,7 @@ impl Call {
             Call::Body(..) => there_and_back::<Result<Range<usize>, curiumtoad::Refusal>>(reply),
             Call::Run(..) => there_and_back::<curiumtoad::Run>(reply),
             Call::RunAccepted(..) => there_and_back::<curiumtoad::AcceptedRun>(reply),
+            Call::Listing(..) => there_and_back::<Option<usize>>(reply),
         }
     }
 }
@@ -92,11 +101,12 @@ impl Call {
 struct Lent {
     scratch: usize,
     row: usize,
+    text: usize,
     start: usize,
 }
 
 impl Lent {
-    fn choose(random: &mut Random) -> Lent {
+    fn choose(random: &mut Random, call: &Call) -> Lent {
         let scratch = match random.below(16) {
             0 => random.of(&[0, 1, 127, 128, 16_128, 16_256, 16_383]),
             1 => random.below(plain::SCRATCH),
@@ -109,7 +119,8 @@ impl Lent {
             2..=8 => plain::ROW,
             _ => plain::ROW + random.within(1, 200),
         };
-        Lent { scratch, row, start: random.below(17) }
+        let text = if let Call::Listing(length) = call { *length } else { 0 };
+        Lent { scratch, row, text, start: random.below(17) }
     }
 }
 
@@ -163,7 +174,7 @@ impl Comparer {
             if self.given_up() {
                 return;
             }
-            let lent = Lent::choose(random);
+            let lent = Lent::choose(random, call);
             self.call(bundle, call, lent, random);
         }
         let number = self.fast(bundle, random);
@@ -176,15 +187,14 @@ impl Comparer {
     }
 
     fn call(&mut self, bundle: &[u8], call: &Call, lent: Lent, random: &mut Random) {
-        let mut scratch = Store::holding(self.noise(lent.scratch, random), lent.start);
-        let mut row = Store::holding(self.noise(lent.row, random), lent.start);
-        let mut scratch_2 = Store::holding(scratch.part(), lent.start);
-        let mut row_2 = Store::holding(row.part(), lent.start);
+        let lengths = [lent.scratch, lent.row, lent.text];
+        let mut buffers = lengths.map(|length| Store::holding(self.noise(length, random), lent.start));
+        let mut buffers_2 = buffers.each_mut().map(|buffer| Store::holding(buffer.part(), lent.start));
         let mut bundle_2 = Store::holding(bundle, lent.start);
 
-        let expected = call.by_plain(bundle, scratch.part(), row.part());
-        let mut values = [random.bits() as u32; 8];
-        let number = call.by_library(bundle_2.part(), scratch_2.part(), row_2.part(), &mut values);
+        let expected = call.by_plain(bundle, buffers.each_mut().map(Store::part));
+        let mut values = [random.bits(); 8];
+        let number = call.by_library(bundle_2.part(), buffers_2.each_mut().map(Store::part), &mut values);
         self.tally.count(call.name(), expected.number);
         if expected.number == 0 && matches!(call, Call::Run(..) | Call::RunAccepted(..)) {
             self.tally.count_run(expected.values);
@@ -199,11 +209,10 @@ impl Comparer {
                 different.push("the wrapper's answer");
             }
         }
-        if scratch.bytes != scratch_2.bytes {
-            different.push("the scratch");
-        }
-        if row.bytes != row_2.bytes {
-            different.push("the row");
+        for (at, name) in ["the scratch", "the row", "the text"].into_iter().enumerate() {
+            if buffers[at].bytes != buffers_2[at].bytes {
+                different.push(name);
+            }
         }
         if bundle_2.bytes != Store::holding(bundle, lent.start).bytes {
             different.push("the bundle");
@@ -256,7 +265,14 @@ pub fn choose(random: &mut Random, bundle: &[u8], parts: &Parts) -> Vec<Call> {
     let (function, tuple) = chooser.send();
     let count = chooser.count(bundle, function, tuple);
     calls.push(Call::RunAccepted(function, tuple, count));
+    calls.extend(listings(bundle));
     calls
+}
+
+/// Listings in buffers that are empty, a byte short, just long enough, and long enough for any.
+fn listings(bundle: &[u8]) -> [Call; 4] {
+    let length = plain::listing(bundle, &mut [0; plain::TEXT]).values[0] as usize;
+    [0, length - 1, length, plain::TEXT].map(Call::Listing)
 }
 
 struct Chooser<'a> {
@@ -265,19 +281,21 @@ struct Chooser<'a> {
 }
 
 impl Chooser<'_> {
-    /// A number below the count, or, once in a while, one that is absent, also where its low byte or half is not.
-    fn number(&mut self, count: usize) -> u32 {
+    /// A number below the count, or, once in a while, one that is absent, also where its low bits are not.
+    fn number(&mut self, count: usize) -> u64 {
         if count != 0 && !self.random.once_in(24) {
-            return self.random.below(count) as u32;
+            return self.random.below(count) as u64;
         }
-        let count = count as u32;
-        let within = if count == 0 { 0 } else { self.random.below(count as usize) as u32 };
-        let absent = [count, count + 1, within + 256, within + 65_536, 127, 128, 255, 512, u32::MAX, u32::MAX - 255];
-        self.random.of(&absent)
+        let within = if count == 0 { 0 } else { self.random.below(count) as u64 };
+        let count = count as u64;
+        let near = [count, count + 1, 127, 128, 255, 512];
+        let cut = [8, 16, 32, 48, 63].map(|bits| within + (1 << bits));
+        let greatest = [u32::MAX.into(), u64::MAX, u64::MAX - 255];
+        self.random.of(&[&near[..], &cut, &greatest].concat())
     }
 
     /// A class under another, concrete if a few tries find one; or, once in a while, any class.
-    fn class_under(&mut self, top: u8) -> u32 {
+    fn class_under(&mut self, top: u8) -> u64 {
         if self.random.once_in(12) {
             return self.number(self.parts.classes.len());
         }
@@ -287,7 +305,7 @@ impl Chooser<'_> {
                 class = self.walk_down(top);
             }
         }
-        class as u32
+        class as u64
     }
 
     fn walk_down(&mut self, top: u8) -> usize {
@@ -300,7 +318,7 @@ impl Chooser<'_> {
         class
     }
 
-    fn tuple(&mut self, function: u8, tops: [u8; 3]) -> [u32; 3] {
+    fn tuple(&mut self, function: u8, tops: [u8; 3]) -> [u64; 3] {
         let places = self.parts.functions.get(function as usize).copied().unwrap_or(3) as usize;
         let mut tuple = [0; 3];
         for place in 0..3 {
@@ -314,56 +332,61 @@ impl Chooser<'_> {
     }
 
     /// A signature and a tuple that it likely covers.
-    fn covered(&mut self) -> (u32, [u32; 3]) {
+    fn covered(&mut self) -> (u64, [u64; 3]) {
         let number = self.number(self.parts.signatures.len());
         match self.parts.signatures.get(number as usize) {
-            None => (number, [self.random.below(3) as u32, 0, 0]),
+            None => (number, [self.random.below(3) as u64, 0, 0]),
             Some(signature) => (number, self.tuple(signature.function, signature.arguments)),
         }
     }
 
     /// A function and classes: those of a signature, of a method, or any.
-    fn send(&mut self) -> (u32, [u32; 3]) {
+    fn send(&mut self) -> (u64, [u64; 3]) {
         let parts = self.parts;
         let kind = self.random.below(8);
         if kind < 4 && !parts.signatures.is_empty() {
             let signature = &parts.signatures[self.random.below(parts.signatures.len())];
-            return (signature.function as u32, self.tuple(signature.function, signature.arguments));
+            return (signature.function.into(), self.tuple(signature.function, signature.arguments));
         }
         if kind < 7 && !parts.methods.is_empty() {
             let method = &parts.methods[self.random.below(parts.methods.len())];
-            return (method.function as u32, self.tuple(method.function, method.specialisers));
+            return (method.function.into(), self.tuple(method.function, method.specialisers));
         }
         let function = self.number(parts.functions.len());
         (function, self.tuple(function as u8, [0; 3]))
     }
 
     /// A step count: any small one, or the greatest where the run is known to end.
-    fn count(&mut self, bundle: &[u8], function: u32, tuple: [u32; 3]) -> u32 {
+    fn count(&mut self, bundle: &[u8], function: u64, tuple: [u64; 3]) -> u32 {
         let small = [0, 1, 2, 3, 4, 5, 7, 10, 20, 31, 32, 33, 60, 100, 300, 1000, 3000];
         if !self.random.once_in(4) {
             return self.random.of(&small);
         }
         let reply = plain::run(bundle, &mut [0; plain::SCRATCH], function, tuple, 5000);
         let spent = reply.number == 0 && reply.values[0] == 1;
+        let steps = reply.values[7] as u32;
         match self.random.below(3) {
             _ if spent => 5000,
             0 => u32::MAX,
             // The steps of the run itself, one fewer, and one more.
-            1 => reply.values[7].saturating_sub(1),
-            _ => reply.values[7] + self.random.below(2) as u32,
+            1 => steps.saturating_sub(1),
+            _ => steps + self.random.below(2) as u32,
         }
     }
 }
+
+/// A number that is absent, though its low half is that of a record.
+const WIDE: u64 = 1 << 32;
 
 /// Every call with every small number, on a bundle of few records.
 pub fn every(bundle: &[u8]) -> Vec<Call> {
     let counts = plain::open(bundle).values.map(|count| count.min(9));
     let classes = counts[0] + 1;
     let mut calls = vec![Call::Open, Call::Check];
-    calls.extend((0..=counts[3]).chain([255, 256, u32::MAX]).map(Call::Body));
-    for a in (0..classes).chain([128, u32::MAX]) {
-        calls.extend((0..classes).chain([128, u32::MAX]).map(|b| Call::Ancestry(a, b)));
+    calls.extend(listings(bundle));
+    calls.extend((0..=counts[3]).chain([255, 256, WIDE, u64::MAX]).map(Call::Body));
+    for a in (0..classes).chain([128, WIDE, u64::MAX]) {
+        calls.extend((0..classes).chain([128, WIDE, u64::MAX]).map(|b| Call::Ancestry(a, b)));
     }
     let mut tuples = Vec::new();
     for a in 0..classes {
@@ -371,10 +394,12 @@ pub fn every(bundle: &[u8]) -> Vec<Call> {
             tuples.extend([[a, b, 0], [a, b, 1]]);
         }
     }
-    tuples.extend([[u32::MAX, 0, 0], [0, u32::MAX, 0], [0, 0, u32::MAX], [256, 0, 0], [0, 65_536, 0]]);
+    for wide in [256, 65_536, WIDE, u64::MAX] {
+        tuples.extend([[wide, 0, 0], [0, wide, 0], [0, 0, wide]]);
+    }
     for tuple in tuples {
-        calls.extend((0..=counts[2]).map(|signature| Call::Witness(signature, tuple)));
-        for function in 0..=counts[1] {
+        calls.extend((0..=counts[2]).chain([WIDE]).map(|signature| Call::Witness(signature, tuple)));
+        for function in (0..=counts[1]).chain([WIDE]) {
             calls.extend([Call::Lookup(function, tuple), Call::SendType(function, tuple)]);
             for count in [0, 1, 2, 31, 32, 33, u32::MAX] {
                 calls.extend([Call::Run(function, tuple, count), Call::RunAccepted(function, tuple, count)]);

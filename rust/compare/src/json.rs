@@ -33,9 +33,9 @@ impl Json {
         }
     }
 
-    pub fn number(&self) -> Option<u32> {
+    pub fn number(&self) -> Option<u64> {
         match self {
-            Json::Number(number) => u32::try_from(*number).ok(),
+            Json::Number(number) => u64::try_from(*number).ok(),
             _ => None,
         }
     }
@@ -48,7 +48,7 @@ impl Json {
     }
 
     /// A list of numbers.
-    pub fn numbers(&self) -> Option<Vec<u32>> {
+    pub fn numbers(&self) -> Option<Vec<u64>> {
         self.list()?.iter().map(Json::number).collect()
     }
 }

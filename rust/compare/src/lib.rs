@@ -1,4 +1,4 @@
-//! Compares the verified library with the plain implementation: every entry point, every byte of scratch and row, over
+//! Compares the verified library with the plain implementation: every entry point, every byte of scratch, row and text, over
 //! bundles that are made from fixed seeds.
 
 pub mod calls;
@@ -32,7 +32,7 @@ pub fn made_bundles(count: usize, seed: u64, comparer: &mut Comparer) {
 pub fn given_bundles(bundles: &[Vec<u8>], comparer: &mut Comparer) {
     let mut random = Random::new(CALLS);
     let none = Parts::default();
-    let short = [Call::Open, Call::Check, Call::Body(0), Call::Run(0, [0; 3], 100)];
+    let short = [Call::Open, Call::Check, Call::Body(0), Call::Run(0, [0; 3], 100), Call::Listing(plain::TEXT)];
     for bundle in bundles {
         comparer.bundle(bundle, &calls::every(bundle), &mut random);
         for at in 0..bundle.len() {

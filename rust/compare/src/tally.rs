@@ -18,7 +18,7 @@ pub struct Tally {
     /// How many runs ended with a value, spent, and deep.
     pub ends: [usize; 3],
     /// The most steps that a run made.
-    pub most_steps: u32,
+    pub most_steps: u64,
 }
 
 impl Tally {
@@ -35,7 +35,7 @@ impl Tally {
     }
 
     /// Counts how a run of number 0 ended.
-    pub fn count_run(&mut self, values: [u32; 8]) {
+    pub fn count_run(&mut self, values: [u64; 8]) {
         self.ends[values[0] as usize % 3] += 1;
         self.most_steps = self.most_steps.max(values[7]);
     }

@@ -66,7 +66,7 @@ fn call(case: &Json) -> Option<Call> {
         ("lookup", 4) => Call::Lookup(n[0], [n[1], n[2], n[3]]),
         ("witness", 4) => Call::Witness(n[0], [n[1], n[2], n[3]]),
         ("sendtype", 4) => Call::SendType(n[0], [n[1], n[2], n[3]]),
-        ("run", 5) => Call::Run(n[0], [n[1], n[2], n[3]], n[4]),
+        ("run", 5) => Call::Run(n[0], [n[1], n[2], n[3]], u32::try_from(n[4]).ok()?),
         ("view", 1) => Call::Body(n[0]),
         _ => return None,
     })
@@ -80,15 +80,15 @@ fn made(bundle: &[u8], call: &Call, case: &Json, counts: &mut Counts) -> Option<
         _ => None,
     };
     let (mut scratch, mut row_1, mut row_2) = ([7; plain::SCRATCH], [7; plain::ROW], [7; plain::ROW]);
-    let reply = call.by_plain(bundle, &mut scratch, &mut row_1);
+    let reply = call.by_plain(bundle, [&mut scratch, &mut row_1, &mut []]);
     let mut values = [7; 8];
-    let number = call.by_library(bundle, &mut scratch, &mut row_2, &mut values);
+    let number = call.by_library(bundle, [&mut scratch, &mut row_2, &mut []], &mut values);
     for (who, said, row_said) in
         [("plain", (reply.number, reply.values), row_1), ("the library", (number, values), row_2)]
     {
         counts.calls += 1;
         let row_expected = match &row {
-            Some(inside) => std::array::from_fn(|class| inside.contains(&(class as u32)) as u8),
+            Some(inside) => std::array::from_fn(|class| inside.contains(&(class as u64)) as u8),
             None => [7; plain::ROW],
         };
         if said != expected || row_said != row_expected {
@@ -100,14 +100,14 @@ fn made(bundle: &[u8], call: &Call, case: &Json, counts: &mut Counts) -> Option<
 }
 
 /// The number and the values of an expected answer.
-fn expected(call: &Call, answer: &Json) -> Option<(u8, [u32; 8])> {
+fn expected(call: &Call, answer: &Json) -> Option<(u8, [u64; 8])> {
     let number = answer.get("number")?.number()? as u8;
     let field = |name: &str| answer.get(name).and_then(Json::number);
     let mut values = Vec::new();
     match number {
         0 => match call {
             Call::Open => values = answer.get("values")?.numbers()?,
-            Call::Ancestry(..) => values.push((answer.get("answer")?.word()? == "yes") as u32),
+            Call::Ancestry(..) => values.push((answer.get("answer")?.word()? == "yes") as u64),
             Call::Lookup(..) => values.push(field("method").or(field("answer"))?),
             Call::Body(..) => values.extend([field("start")?, field("length")?]),
             Call::Run(..) => match answer.get("end")?.word()? {

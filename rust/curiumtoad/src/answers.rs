@@ -9,11 +9,11 @@ use std::ops::Range;
 #[derive(Clone, Copy, Debug, PartialEq, Eq)]
 pub struct Reply {
     pub number: u8,
-    pub values: [u32; 8],
+    pub values: [u64; 8],
 }
 
 impl Reply {
-    fn new(number: u8, named: &[u32]) -> Reply {
+    fn new(number: u8, named: &[u64]) -> Reply {
         let mut values = [0; 8];
         values[..named.len()].copy_from_slice(named);
         Reply { number, values }
@@ -48,12 +48,12 @@ fn never_given(reply: Reply) -> ! {
 /// A function and the classes that it is sent to; unused places hold 0.
 #[derive(Clone, Copy, Debug, PartialEq, Eq)]
 pub struct Sent {
-    pub function: u32,
-    pub arguments: [u32; 3],
+    pub function: u64,
+    pub arguments: [u64; 3],
 }
 
 impl Sent {
-    fn at(values: &[u32]) -> Sent {
+    fn at(values: &[u64]) -> Sent {
         Sent { function: values[0], arguments: [values[1], values[2], values[3]] }
     }
 }
@@ -61,10 +61,10 @@ impl Sent {
 /// How many records of each kind a bundle has.
 #[derive(Clone, Copy, Debug, PartialEq, Eq)]
 pub struct Counts {
-    pub classes: u32,
-    pub functions: u32,
-    pub signatures: u32,
-    pub methods: u32,
+    pub classes: u64,
+    pub functions: u64,
+    pub signatures: u64,
+    pub methods: u64,
 }
 
 /// Why a call was refused: the bundle does not open, a buffer is too short, or a number names nothing.
@@ -77,17 +77,17 @@ pub enum Refusal {
     /// 3: too many records of a kind, or no class.
     Limits,
     /// 4: this class record breaks its rule.
-    Class(u32),
+    Class(u64),
     /// 5: this function record breaks its rule.
-    Function(u32),
+    Function(u64),
     /// 6: this signature record breaks its rule.
-    Signature(u32),
+    Signature(u64),
     /// 7: this method record breaks its rule.
-    Method(u32),
+    Method(u64),
     /// 8: an earlier method of the same function has the specialisers of this one.
-    Twin(u32),
+    Twin(u64),
     /// 9: this method's body has an unknown operation, or an operand that names nothing.
-    Operand(u32),
+    Operand(u64),
     /// 18: an absent function, method, signature or class, an unused argument that is not 0, an abstract class in a run
     /// or a witness, or a witness tuple that the signature does not cover.
     Absent,
@@ -187,7 +187,7 @@ impl Answer for Result<bool, Refusal> {
 
     fn reply(&self) -> Reply {
         match self {
-            Ok(under) => Reply::new(0, &[*under as u32]),
+            Ok(under) => Reply::new(0, &[*under as u64]),
             Err(refusal) => refusal.reply(),
         }
     }
@@ -206,8 +206,26 @@ impl Answer for Result<Range<usize>, Refusal> {
 
     fn reply(&self) -> Reply {
         match self {
-            Ok(range) => Reply::new(0, &[range.start as u32, range.len() as u32]),
+            Ok(range) => Reply::new(0, &[range.start as u64, range.len() as u64]),
             Err(refusal) => refusal.reply(),
+        }
+    }
+}
+
+/// The length of a listing, or none where the buffer is too short.
+impl Answer for Option<usize> {
+    fn of(reply: Reply) -> Self {
+        match reply.number {
+            0 => Some(reply.values[0] as usize),
+            20 => None,
+            _ => never_given(reply),
+        }
+    }
+
+    fn reply(&self) -> Reply {
+        match self {
+            Some(length) => Reply::new(0, &[*length as u64]),
+            None => Reply::new(20, &[]),
         }
     }
 }
@@ -216,11 +234,11 @@ impl Answer for Result<Range<usize>, Refusal> {
 #[derive(Clone, Copy, Debug, PartialEq, Eq)]
 pub enum Lookup {
     /// The send finds this method.
-    Found(u32),
+    Found(u64),
     /// 10: no method applies.
     NoMethod(Sent),
     /// 11: no applicable method is at least as specific as every other; the two lowest unbeaten ones, lower first.
-    Rivals(Sent, [u32; 2]),
+    Rivals(Sent, [u64; 2]),
     /// The call was refused.
     Refused(Refusal),
 }
@@ -246,7 +264,7 @@ impl Answer for Lookup {
     }
 }
 
-fn sent_reply(number: u8, sent: &Sent, methods: &[u32]) -> Reply {
+fn sent_reply(number: u8, sent: &Sent, methods: &[u64]) -> Reply {
     let [a0, a1, a2] = sent.arguments;
     Reply::new(number, &[&[sent.function, a0, a1, a2], methods].concat())
 }
@@ -286,17 +304,17 @@ pub enum Fault {
     /// 10: no method applies.
     NoMethod,
     /// 11: no applicable method leads; the two lowest unbeaten ones.
-    Rivals([u32; 2]),
+    Rivals([u64; 2]),
     /// 12: an argument class is not under the declared class of the method found.
-    Declared(u32),
+    Declared(u64),
     /// 13: the result class of the method found is not under the signature's.
-    Result(u32),
+    Result(u64),
 }
 
 /// A signature whose coverage is broken, with a tuple that breaks it.
 #[derive(Clone, Copy, Debug, PartialEq, Eq)]
 pub struct BrokenSignature {
-    pub signature: u32,
+    pub signature: u64,
     pub sent: Sent,
     pub fault: Fault,
 }
@@ -316,7 +334,7 @@ impl BrokenSignature {
     }
 
     fn reply(&self) -> Reply {
-        let (number, methods): (u8, &[u32]) = match &self.fault {
+        let (number, methods): (u8, &[u64]) = match &self.fault {
             Fault::NoMethod => (10, &[]),
             Fault::Rivals(rivals) => (11, rivals),
             Fault::Declared(method) => (12, std::slice::from_ref(method)),
@@ -343,8 +361,8 @@ pub enum BodyFault {
 /// A method whose body breaks a rule, and the instruction that does; the end counts as one more instruction.
 #[derive(Clone, Copy, Debug, PartialEq, Eq)]
 pub struct BrokenBody {
-    pub method: u32,
-    pub instruction: u32,
+    pub method: u64,
+    pub instruction: u64,
     pub fault: BodyFault,
 }
 
@@ -456,7 +474,7 @@ impl Answer for Witness {
 #[derive(Clone, Copy, Debug, PartialEq, Eq)]
 pub enum Ending {
     /// The opening body ended with this class.
-    Value(u32),
+    Value(u64),
     /// The steps made equal the count, and an instruction is left.
     Spent,
     /// A send would need a 33rd frame.
@@ -464,20 +482,20 @@ pub enum Ending {
     /// 10: no method applies to this send.
     NoMethod(Sent),
     /// 11: no applicable method leads for this send; the two lowest unbeaten ones.
-    Rivals(Sent, [u32; 2]),
+    Rivals(Sent, [u64; 2]),
     /// 12: an argument class is not under the declared class of this method, which the send finds.
-    Declared(Sent, u32),
+    Declared(Sent, u64),
     /// 14: a send with too few values, or an end with none or with several.
-    Values { method: u32, instruction: u32 },
+    Values { method: u64, instruction: u64 },
     /// 15: NEW of an abstract class.
-    Abstract { method: u32, instruction: u32 },
+    Abstract { method: u64, instruction: u64 },
 }
 
 /// The answer of a run.
 #[derive(Clone, Copy, Debug, PartialEq, Eq)]
 pub enum Run {
     /// The run ended after these steps.
-    Ended { ending: Ending, steps: u32 },
+    Ended { ending: Ending, steps: u64 },
     /// The call was refused.
     Refused(Refusal),
 }
@@ -524,11 +542,11 @@ impl Answer for Run {
 #[derive(Clone, Copy, Debug, PartialEq, Eq)]
 pub enum AcceptedRun {
     /// The opening body ended with this class.
-    Value { class: u32, steps: u32 },
+    Value { class: u64, steps: u64 },
     /// The steps made equal the count, and an instruction is left.
-    Spent { steps: u32 },
+    Spent { steps: u64 },
     /// A send would need a 33rd frame.
-    Deep { steps: u32 },
+    Deep { steps: u64 },
     /// The bundle is not accepted, and nothing was run.
     NotAccepted(Finding),
     /// The bundle is accepted, but no signature covers the send, and nothing was run.

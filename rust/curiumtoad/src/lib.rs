@@ -2,12 +2,12 @@
 //!
 //! A *bundle* is a small binary file of classes, functions, signatures, methods and method bodies. Every call takes the
 //! bundle's bytes and opens them anew; no state is kept between calls, and no call can fail but by its answer. The calls
-//! other than [`open`] and [`body`] take a scratch of [`SCRATCH`] bytes or more, into which they write which class is
+//! other than [`open`], [`body`] and [`listing`] take a scratch of [`SCRATCH`] bytes or more, into which they write which class is
 //! under which: byte 128·a + b is 1 when class a is under class b, else 0. Later bytes are left alone, and so is the
 //! whole scratch where the bundle does not open or the scratch is too short.
 //!
-//! Functions, classes, methods and signatures are numbers, counted from 0. The classes of a call are three, whatever the
-//! function's argument count; unused places hold 0.
+//! Functions, classes, methods and signatures are numbers, counted from 0; any may be passed, and one that is absent is
+//! refused. The classes of a call are three, whatever the function's argument count; unused places hold 0.
 //!
 //! ```
 //! use curiumtoad::{check, lookup, Lookup, Verdict, SCRATCH};
@@ -29,10 +29,24 @@ pub use answers::{
 
 use std::ops::Range;
 
+/// The version of the library's C functions that this crate declares.
+pub const VERSION: u32 = 1;
 /// The least length of a scratch.
 pub const SCRATCH: usize = 16_384;
 /// The least length of a row.
 pub const ROW: usize = 128;
+/// A length that is enough for the listing of any bundle.
+pub const TEXT: usize = 512;
+
+/// The version that the library was built with. Where it is not [`VERSION`], this crate is not made for the library that
+/// is linked, and no other function may be called.
+///
+/// ```
+/// assert_eq!(curiumtoad::version(), curiumtoad::VERSION);
+/// ```
+pub fn version() -> u32 {
+    raw::version()
+}
 
 /// Opens the bundle and counts its records.
 ///
@@ -62,7 +76,7 @@ pub fn open(bundle: &[u8]) -> Result<Counts, Refusal> {
 /// assert_eq!(scratch[128 * 4 + 3], 1);
 /// # Ok::<(), std::io::Error>(())
 /// ```
-pub fn ancestry(bundle: &[u8], scratch: &mut [u8], a: u32, b: u32) -> Result<bool, Refusal> {
+pub fn ancestry(bundle: &[u8], scratch: &mut [u8], a: u64, b: u64) -> Result<bool, Refusal> {
     Answer::of(raw::reply(|values| raw::ancestry(bundle, scratch, a, b, values)))
 }
 
@@ -79,7 +93,7 @@ pub fn ancestry(bundle: &[u8], scratch: &mut [u8], a: u32, b: u32) -> Result<boo
 /// assert_eq!(lookup(&bundle, &mut scratch, 0, [2, 4, 0]), Lookup::Rivals(sent, [0, 1]));
 /// # Ok::<(), std::io::Error>(())
 /// ```
-pub fn lookup(bundle: &[u8], scratch: &mut [u8], function: u32, arguments: [u32; 3]) -> Lookup {
+pub fn lookup(bundle: &[u8], scratch: &mut [u8], function: u64, arguments: [u64; 3]) -> Lookup {
     Answer::of(raw::reply(|values| raw::lookup(bundle, scratch, function, arguments, values)))
 }
 
@@ -98,7 +112,7 @@ pub fn lookup(bundle: &[u8], scratch: &mut [u8], function: u32, arguments: [u32;
 /// assert_eq!(send_type(&bundle, &mut scratch, &mut row, 0, [0, 0, 0]), SendType::NoLicence);
 /// # Ok::<(), std::io::Error>(())
 /// ```
-pub fn send_type(bundle: &[u8], scratch: &mut [u8], row: &mut [u8], function: u32, arguments: [u32; 3]) -> SendType {
+pub fn send_type(bundle: &[u8], scratch: &mut [u8], row: &mut [u8], function: u64, arguments: [u64; 3]) -> SendType {
     Answer::of(raw::reply(|values| raw::send_type(bundle, scratch, row, function, arguments, values)))
 }
 
@@ -128,7 +142,7 @@ pub fn check(bundle: &[u8], scratch: &mut [u8]) -> Verdict {
 /// assert_eq!(witness(&bundle, &mut [0; SCRATCH], 0, [1, 3, 0]), Witness::Holds);
 /// # Ok::<(), std::io::Error>(())
 /// ```
-pub fn witness(bundle: &[u8], scratch: &mut [u8], signature: u32, arguments: [u32; 3]) -> Witness {
+pub fn witness(bundle: &[u8], scratch: &mut [u8], signature: u64, arguments: [u64; 3]) -> Witness {
     Answer::of(raw::reply(|values| raw::witness(bundle, scratch, signature, arguments, values)))
 }
 
@@ -142,7 +156,7 @@ pub fn witness(bundle: &[u8], scratch: &mut [u8], signature: u32, arguments: [u3
 /// assert_eq!(body(&bundle, 3), Err(Refusal::Absent));
 /// # Ok::<(), std::io::Error>(())
 /// ```
-pub fn body(bundle: &[u8], method: u32) -> Result<&[u8], Refusal> {
+pub fn body(bundle: &[u8], method: u64) -> Result<&[u8], Refusal> {
     let range: Result<Range<usize>, Refusal> = Answer::of(raw::reply(|values| raw::body(bundle, method, values)));
     range.map(|range| &bundle[range])
 }
@@ -158,7 +172,7 @@ pub fn body(bundle: &[u8], method: u32) -> Result<&[u8], Refusal> {
 /// assert_eq!(run(&bundle, &mut scratch, 0, [0; 3], 32), Run::Ended { ending: Ending::Deep, steps: 31 });
 /// # Ok::<(), std::io::Error>(())
 /// ```
-pub fn run(bundle: &[u8], scratch: &mut [u8], function: u32, arguments: [u32; 3], count: u32) -> Run {
+pub fn run(bundle: &[u8], scratch: &mut [u8], function: u64, arguments: [u64; 3], count: u32) -> Run {
     Answer::of(raw::reply(|values| raw::run(bundle, scratch, function, arguments, count, values)))
 }
 
@@ -175,6 +189,23 @@ pub fn run(bundle: &[u8], scratch: &mut [u8], function: u32, arguments: [u32; 3]
 /// assert_eq!(run_accepted(&bundle, &mut scratch, 0, [6, 7, 0], 1), AcceptedRun::NotCovered);
 /// # Ok::<(), std::io::Error>(())
 /// ```
-pub fn run_accepted(bundle: &[u8], scratch: &mut [u8], function: u32, arguments: [u32; 3], count: u32) -> AcceptedRun {
+pub fn run_accepted(bundle: &[u8], scratch: &mut [u8], function: u64, arguments: [u64; 3], count: u32) -> AcceptedRun {
     Answer::of(raw::reply(|values| raw::run_accepted(bundle, scratch, function, arguments, count, values)))
+}
+
+/// The listing of a bundle, whether it opens or not, at the start of the buffer: the counts, and what the check says. None
+/// where the buffer is too short, which is then left alone; [`TEXT`] bytes are always enough.
+///
+/// ```
+/// use curiumtoad::{listing, TEXT};
+///
+/// let bundle = std::fs::read("../../bundles/chart-4.bundle")?;
+/// let expected = "classes 8 functions 1 signatures 1 methods 4\naccepted\n";
+/// assert_eq!(listing(&bundle, &mut [0; TEXT]), Some(expected));
+/// assert_eq!(listing(&bundle, &mut [0; 20]), None);
+/// # Ok::<(), std::io::Error>(())
+/// ```
+pub fn listing<'text>(bundle: &[u8], text: &'text mut [u8]) -> Option<&'text str> {
+    let length: usize = Option::of(raw::reply(|values| raw::listing(bundle, text, values)))?;
+    Some(std::str::from_utf8(&text[..length]).expect("a listing is ASCII"))
 }

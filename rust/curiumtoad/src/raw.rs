@@ -1,7 +1,7 @@
 //! The calls as numbers: what crosses to the library and back, and nothing more.
 //!
 //! Each function gives the number of its answer, 0 where nothing is refused, and writes all eight values; [`crate::Reply`] says
-//! what they are.
+//! what they are. It is called as the function of [`crate`] that has its name, but for the values.
 //!
 //! Every function here is safe: the library's functions ask nothing of their callers, a slice crosses as the pointer and
 //! the length of a reference that is live during the call, and the borrows keep the lent buffers apart. The pointer of an
@@ -10,88 +10,70 @@
 use crate::Reply;
 
 /// The eight values of a reply.
-pub type Values = [u32; 8];
+pub type Values = [u64; 8];
 
-mod library {
-    extern "C" {
-        pub fn curiumtoad_open(bundle: *const u8, bundle_len: usize, values: *mut u32) -> u8;
-        pub fn curiumtoad_ancestry(
-            bundle: *const u8,
-            bundle_len: usize,
-            scratch: *mut u8,
-            scratch_len: usize,
-            a: u32,
-            b: u32,
-            values: *mut u32,
-        ) -> u8;
-        pub fn curiumtoad_lookup(
-            bundle: *const u8,
-            bundle_len: usize,
-            scratch: *mut u8,
-            scratch_len: usize,
-            function: u32,
-            a0: u32,
-            a1: u32,
-            a2: u32,
-            values: *mut u32,
-        ) -> u8;
-        pub fn curiumtoad_send_type(
-            bundle: *const u8,
-            bundle_len: usize,
-            scratch: *mut u8,
-            scratch_len: usize,
-            row: *mut u8,
-            row_len: usize,
-            function: u32,
-            a0: u32,
-            a1: u32,
-            a2: u32,
-            values: *mut u32,
-        ) -> u8;
-        pub fn curiumtoad_check(
-            bundle: *const u8,
-            bundle_len: usize,
-            scratch: *mut u8,
-            scratch_len: usize,
-            values: *mut u32,
-        ) -> u8;
-        pub fn curiumtoad_witness(
-            bundle: *const u8,
-            bundle_len: usize,
-            scratch: *mut u8,
-            scratch_len: usize,
-            signature: u32,
-            a0: u32,
-            a1: u32,
-            a2: u32,
-            values: *mut u32,
-        ) -> u8;
-        pub fn curiumtoad_body(bundle: *const u8, bundle_len: usize, method: u32, values: *mut u32) -> u8;
-        pub fn curiumtoad_run(
-            bundle: *const u8,
-            bundle_len: usize,
-            scratch: *mut u8,
-            scratch_len: usize,
-            function: u32,
-            a0: u32,
-            a1: u32,
-            a2: u32,
-            count: u32,
-            values: *mut u32,
-        ) -> u8;
-        pub fn curiumtoad_run_accepted(
-            bundle: *const u8,
-            bundle_len: usize,
-            scratch: *mut u8,
-            scratch_len: usize,
-            function: u32,
-            a0: u32,
-            a1: u32,
-            a2: u32,
-            count: u32,
-            values: *mut u32,
-        ) -> u8;
-    }
+/// Declares functions of the library and makes each a safe one. A line has the buffers that the function is lent beside
+/// the bundle, its numbers, the classes of a send, and a count of steps, as far as it has them.
+macro_rules! calls {
+    ($($name:ident = $symbol:ident
+        [$($buffer:ident),*] ($($number:ident),*) $(($a0:ident, $a1:ident, $a2:ident))? $($count:ident)?;)*) => {
+        mod library {
+            extern "C" {
+                pub fn curiumtoad_version() -> u32;
+                $(pub fn $symbol(
+                    bundle: *const u8,
+                    _: usize,
+                    $($buffer: *mut u8, _: usize,)*
+                    $($number: u64,)*
+                    $($a0: u64, $a1: u64, $a2: u64,)?
+                    $($count: u32,)?
+                    values: *mut u64,
+                ) -> u8;)*
+            }
+        }
+
+        $(#[doc = concat!("See [`crate::", stringify!($name), "`].")]
+        pub fn $name(
+            bundle: &[u8],
+            $($buffer: &mut [u8],)*
+            $($number: u64,)*
+            $([$a0, $a1, $a2]: [u64; 3],)?
+            $($count: u32,)?
+            values: &mut Values,
+        ) -> u8 {
+            // SAFETY: see the module.
+            unsafe {
+                library::$symbol(
+                    bundle.as_ptr(),
+                    bundle.len(),
+                    $($buffer.as_mut_ptr(), $buffer.len(),)*
+                    $($number,)*
+                    $($a0, $a1, $a2,)?
+                    $($count,)?
+                    values.as_mut_ptr(),
+                )
+            }
+        })*
+    };
+}
+
+calls! {
+    open = curiumtoad_open [] ();
+    ancestry = curiumtoad_ancestry [scratch] (a, b);
+    lookup = curiumtoad_lookup [scratch] (function) (a0, a1, a2);
+    send_type = curiumtoad_send_type [scratch, row] (function) (a0, a1, a2);
+    check = curiumtoad_check [scratch] ();
+    witness = curiumtoad_witness [scratch] (signature) (a0, a1, a2);
+    body = curiumtoad_body [] (method);
+    run = curiumtoad_run [scratch] (function) (a0, a1, a2) count;
+    run_accepted = curiumtoad_run_accepted [scratch] (function) (a0, a1, a2) count;
+    listing = curiumtoad_listing [text] ();
+}
+
+/// See [`crate::version`].
+pub fn version() -> u32 {
+    // SAFETY: it takes nothing and only gives a number.
+    unsafe { library::curiumtoad_version() }
 }
 
 /// Makes a call on eight values and keeps what it gave.
@@ -99,166 +81,4 @@ pub(crate) fn reply(call: impl FnOnce(&mut Values) -> u8) -> Reply {
     let mut values = [0; 8];
     let number = call(&mut values);
     Reply { number, values }
-}
-
-/// See [`crate::open`].
-pub fn open(bundle: &[u8], values: &mut Values) -> u8 {
-    // SAFETY: see the module.
-    unsafe { library::curiumtoad_open(bundle.as_ptr(), bundle.len(), values.as_mut_ptr()) }
-}
-
-/// See [`crate::ancestry`].
-pub fn ancestry(bundle: &[u8], scratch: &mut [u8], a: u32, b: u32, values: &mut Values) -> u8 {
-    // SAFETY: see the module.
-    unsafe {
-        library::curiumtoad_ancestry(
-            bundle.as_ptr(),
-            bundle.len(),
-            scratch.as_mut_ptr(),
-            scratch.len(),
-            a,
-            b,
-            values.as_mut_ptr(),
-        )
-    }
-}
-
-/// See [`crate::lookup`].
-pub fn lookup(bundle: &[u8], scratch: &mut [u8], function: u32, arguments: [u32; 3], values: &mut Values) -> u8 {
-    let [a0, a1, a2] = arguments;
-    // SAFETY: see the module.
-    unsafe {
-        library::curiumtoad_lookup(
-            bundle.as_ptr(),
-            bundle.len(),
-            scratch.as_mut_ptr(),
-            scratch.len(),
-            function,
-            a0,
-            a1,
-            a2,
-            values.as_mut_ptr(),
-        )
-    }
-}
-
-/// See [`crate::send_type`].
-pub fn send_type(
-    bundle: &[u8],
-    scratch: &mut [u8],
-    row: &mut [u8],
-    function: u32,
-    arguments: [u32; 3],
-    values: &mut Values,
-) -> u8 {
-    let [a0, a1, a2] = arguments;
-    // SAFETY: see the module.
-    unsafe {
-        library::curiumtoad_send_type(
-            bundle.as_ptr(),
-            bundle.len(),
-            scratch.as_mut_ptr(),
-            scratch.len(),
-            row.as_mut_ptr(),
-            row.len(),
-            function,
-            a0,
-            a1,
-            a2,
-            values.as_mut_ptr(),
-        )
-    }
-}
-
-/// See [`crate::check`].
-pub fn check(bundle: &[u8], scratch: &mut [u8], values: &mut Values) -> u8 {
-    // SAFETY: see the module.
-    unsafe {
-        library::curiumtoad_check(
-            bundle.as_ptr(),
-            bundle.len(),
-            scratch.as_mut_ptr(),
-            scratch.len(),
-            values.as_mut_ptr(),
-        )
-    }
-}
-
-/// See [`crate::witness`].
-pub fn witness(bundle: &[u8], scratch: &mut [u8], signature: u32, arguments: [u32; 3], values: &mut Values) -> u8 {
-    let [a0, a1, a2] = arguments;
-    // SAFETY: see the module.
-    unsafe {
-        library::curiumtoad_witness(
-            bundle.as_ptr(),
-            bundle.len(),
-            scratch.as_mut_ptr(),
-            scratch.len(),
-            signature,
-            a0,
-            a1,
-            a2,
-            values.as_mut_ptr(),
-        )
-    }
-}
-
-/// See [`crate::body`].
-pub fn body(bundle: &[u8], method: u32, values: &mut Values) -> u8 {
-    // SAFETY: see the module.
-    unsafe { library::curiumtoad_body(bundle.as_ptr(), bundle.len(), method, values.as_mut_ptr()) }
-}
-
-/// See [`crate::run`].
-pub fn run(
-    bundle: &[u8],
-    scratch: &mut [u8],
-    function: u32,
-    arguments: [u32; 3],
-    count: u32,
-    values: &mut Values,
-) -> u8 {
-    let [a0, a1, a2] = arguments;
-    // SAFETY: see the module.
-    unsafe {
-        library::curiumtoad_run(
-            bundle.as_ptr(),
-            bundle.len(),
-            scratch.as_mut_ptr(),
-            scratch.len(),
-            function,
-            a0,
-            a1,
-            a2,
-            count,
-            values.as_mut_ptr(),
-        )
-    }
-}
-
-/// See [`crate::run_accepted`].
-pub fn run_accepted(
-    bundle: &[u8],
-    scratch: &mut [u8],
-    function: u32,
-    arguments: [u32; 3],
-    count: u32,
-    values: &mut Values,
-) -> u8 {
-    let [a0, a1, a2] = arguments;
-    // SAFETY: see the module.
-    unsafe {
-        library::curiumtoad_run_accepted(
-            bundle.as_ptr(),
-            bundle.len(),
-            scratch.as_mut_ptr(),
-            scratch.len(),
-            function,
-            a0,
-            a1,
-            a2,
-            count,
-            values.as_mut_ptr(),
-        )
-    }
 }

@@ -1,8 +1,9 @@
 //! The sample bundles by the wrapper's types, and buffers of every length.
 
 use curiumtoad::{
-    ancestry, body, check, lookup, open, run, run_accepted, send_type, witness, AcceptedRun, BodyFault, BrokenBody,
-    BrokenSignature, Ending, Fault, Finding, Lookup, Refusal, Run, SendType, Sent, Verdict, Witness, ROW, SCRATCH,
+    ancestry, body, check, listing, lookup, open, run, run_accepted, send_type, witness, AcceptedRun, BodyFault,
+    BrokenBody, BrokenSignature, Ending, Fault, Finding, Lookup, Refusal, Run, SendType, Sent, Verdict, Witness, ROW,
+    SCRATCH, TEXT,
 };
 
 fn sample(name: &str) -> Vec<u8> {
@@ -91,7 +92,7 @@ fn short_buffers_are_left_alone_and_long_ones_past_their_part() {
 fn absent_numbers_are_refused_whatever_their_width() {
     let bundle = sample("chart-4");
     let mut scratch = [0; SCRATCH];
-    for number in [8, 128, 256, 65_536, u32::MAX] {
+    for number in [8, 128, 256, 65_536, 1 << 32, (1 << 32) + 1, u64::MAX] {
         assert_eq!(body(&bundle, number), Err(Refusal::Absent));
         assert_eq!(ancestry(&bundle, &mut scratch, number, 0), Err(Refusal::Absent));
         assert_eq!(lookup(&bundle, &mut scratch, 0, [1, number, 0]), Lookup::Refused(Refusal::Absent));
@@ -100,4 +101,21 @@ fn absent_numbers_are_refused_whatever_their_width() {
         assert_eq!(witness(&bundle, &mut scratch, number, [1, 3, 0]), Witness::Refused(Refusal::Absent));
         assert_eq!(run(&bundle, &mut scratch, number, [1, 3, 0], 1), Run::Refused(Refusal::Absent));
     }
+}
+
+/// Every sample has a file with its listing.
+#[test]
+fn listings_of_the_samples() {
+    let folder = concat!(env!("CARGO_MANIFEST_DIR"), "/../../bundles");
+    let mut samples = 0;
+    for entry in std::fs::read_dir(folder).expect("the samples are there") {
+        let path = entry.expect("the folder can be read").path();
+        if path.extension().is_some_and(|extension| extension == "bundle") {
+            let bundle = std::fs::read(&path).expect("a sample can be read");
+            let expected = std::fs::read_to_string(path.with_extension("listing")).expect("its listing can be read");
+            assert_eq!(listing(&bundle, &mut [0; TEXT]), Some(&expected[..]), "{}", path.display());
+            samples += 1;
+        }
+    }
+    assert!(samples > 0);
 }

@@ -7,7 +7,7 @@ pub fn check(tables: &Tables) -> Result<(), Broken> {
     let by_function = by_function(tables);
     for (number, record) in tables.methods.iter().enumerate() {
         if let Some((broken, instruction)) = broken_body(tables, &by_function, record) {
-            return Err(Broken::new(broken, &[number as u32, instruction as u32]));
+            return Err(Broken::new(broken, &[number as u64, instruction as u64]));
         }
     }
     Ok(())

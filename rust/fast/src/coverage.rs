@@ -194,8 +194,8 @@ impl<const W: usize> Function<W> {
 
     /// Why a tuple is broken, and by which methods.
     fn reason(&self, tables: &Tables, number: usize, signature: &[u8; 5], tuple: [u8; 3]) -> Broken {
-        let mut named = vec![number as u32, signature[0] as u32];
-        named.extend(tuple.map(u32::from));
+        let mut named = vec![number as u64, signature[0] as u64];
+        named.extend(tuple.map(u64::from));
         let mut apply = first_bits::<W>(self.order.len());
         for (sets, class) in self.applying[..self.places].iter().zip(tuple) {
             apply = both(&apply, &sets[class as usize]);
@@ -206,12 +206,12 @@ impl<const W: usize> Function<W> {
         };
         if methods.iter().any(|&m| !has(&self.below[first], m)) {
             let beaten = |&m: &usize| methods.iter().any(|&other| other != m && has(&self.below[other], m));
-            let mut rivals: Vec<u32> = methods.iter().filter(|m| !beaten(m)).map(|&m| self.order[m] as u32).collect();
+            let mut rivals: Vec<u64> = methods.iter().filter(|m| !beaten(m)).map(|&m| self.order[m] as u64).collect();
             rivals.sort_unstable();
             named.extend(&rivals[..2]);
             return Broken::new(11, &named);
         }
-        named.push(self.order[first] as u32);
+        named.push(self.order[first] as u64);
         let method = tables.methods[self.order[first] as usize];
         let held = (0..self.places).all(|place| tables.under(tuple[place], method[4 + place]));
         Broken::new(if held { 13 } else { 12 }, &named)

@@ -55,8 +55,8 @@ impl<'a> Tables<'a> {
         Ok(tables)
     }
 
-    pub fn counts(&self) -> [u32; 4] {
-        [self.classes, self.functions.len(), self.signatures.len(), self.methods.len()].map(|count| count as u32)
+    pub fn counts(&self) -> [u64; 4] {
+        [self.classes, self.functions.len(), self.signatures.len(), self.methods.len()].map(|count| count as u64)
     }
 
     /// The body of a method, as pairs of operation and operand.
@@ -73,7 +73,7 @@ impl<'a> Tables<'a> {
     fn read_classes(&mut self, classes: &[[u8; 6]]) -> Result<(), Broken> {
         let mut end = 0;
         for (number, record) in classes.iter().enumerate() {
-            let broken = Err(Broken::new(4, &[number as u32]));
+            let broken = Err(Broken::new(4, &[number as u64]));
             let offset = two_bytes(record, 2);
             let next = offset + two_bytes(record, 4);
             if record[0] > 1 || record[1] != 0 || offset != end || next > self.parents.len() {
@@ -97,14 +97,14 @@ impl<'a> Tables<'a> {
             end = next;
         }
         if end != self.parents.len() {
-            return Err(Broken::new(4, &[classes.len() as u32 - 1]));
+            return Err(Broken::new(4, &[classes.len() as u64 - 1]));
         }
         Ok(())
     }
 
     fn check_functions(&self) -> Result<(), Broken> {
         match self.functions.iter().position(|&arguments| arguments > 3) {
-            Some(function) => Err(Broken::new(5, &[function as u32])),
+            Some(function) => Err(Broken::new(5, &[function as u64])),
             None => Ok(()),
         }
     }
@@ -123,7 +123,7 @@ impl<'a> Tables<'a> {
                 None => false,
             };
             if !lawful {
-                return Err(Broken::new(6, &[number as u32]));
+                return Err(Broken::new(6, &[number as u64]));
             }
         }
         Ok(())
@@ -148,12 +148,12 @@ impl<'a> Tables<'a> {
                 None => false,
             };
             if !lawful {
-                return Err(Broken::new(7, &[number as u32]));
+                return Err(Broken::new(7, &[number as u64]));
             }
             end = offset + length;
         }
         if end != self.code.len() {
-            return Err(Broken::new(7, &[self.methods.len() as u32 - 1]));
+            return Err(Broken::new(7, &[self.methods.len() as u64 - 1]));
         }
         Ok(())
     }
@@ -172,7 +172,7 @@ impl<'a> Tables<'a> {
                     break;
                 }
                 if self.methods[entry as usize - 1][..4] == key {
-                    return Err(Broken::new(8, &[number as u32]));
+                    return Err(Broken::new(8, &[number as u64]));
                 }
                 slot += 1;
             }
@@ -187,7 +187,7 @@ impl<'a> Tables<'a> {
         for (number, record) in self.methods.iter().enumerate() {
             bounds[0] = self.functions[record[0] as usize];
             if self.body(record).iter().any(|&[operation, operand]| operand >= bounds[operation as usize]) {
-                return Err(Broken::new(9, &[number as u32]));
+                return Err(Broken::new(9, &[number as u64]));
             }
         }
         Ok(())

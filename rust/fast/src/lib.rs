@@ -22,11 +22,11 @@ pub const SCRATCH: usize = 128 * 128;
 #[derive(Clone, Copy, Debug, PartialEq, Eq)]
 pub struct Broken {
     number: u8,
-    values: [u32; 8],
+    values: [u64; 8],
 }
 
 impl Broken {
-    fn new(number: u8, named: &[u32]) -> Broken {
+    fn new(number: u8, named: &[u64]) -> Broken {
         let mut values = [0; 8];
         values[..named.len()].copy_from_slice(named);
         Broken { number, values }
@@ -34,7 +34,7 @@ impl Broken {
 }
 
 /// Opens a bundle: its number, 0 where it opens, and the four counts or the record.
-pub fn open(bundle: &[u8], values: &mut [u32; 8]) -> u8 {
+pub fn open(bundle: &[u8], values: &mut [u64; 8]) -> u8 {
     match Tables::open(bundle) {
         Ok(tables) => {
             *values = [0; 8];
@@ -46,7 +46,7 @@ pub fn open(bundle: &[u8], values: &mut [u32; 8]) -> u8 {
 }
 
 /// Checks a bundle: its number, 0 where it is accepted, and the values.
-pub fn check(bundle: &[u8], scratch: &mut [u8], values: &mut [u32; 8]) -> u8 {
+pub fn check(bundle: &[u8], scratch: &mut [u8], values: &mut [u64; 8]) -> u8 {
     match verdict(bundle, scratch) {
         Ok(()) => {
             *values = [0; 8];
@@ -56,7 +56,7 @@ pub fn check(bundle: &[u8], scratch: &mut [u8], values: &mut [u32; 8]) -> u8 {
     }
 }
 
-fn said(broken: Broken, values: &mut [u32; 8]) -> u8 {
+fn said(broken: Broken, values: &mut [u64; 8]) -> u8 {
     *values = broken.values;
     broken.number
 }

@@ -7,6 +7,7 @@
 mod bundle;
 mod coverage;
 mod dispatch;
+mod listing;
 mod machine;
 mod typing;
 
@@ -22,6 +23,8 @@ pub type Triple = [usize; 3];
 pub const SCRATCH: usize = 128 * 128;
 /// The least length of the row.
 pub const ROW: usize = 128;
+/// A length of buffer that is enough for every listing.
+pub const TEXT: usize = 512;
 
 /// What a call gives back.
 #[derive(Clone, Copy, Debug, PartialEq, Eq)]
@@ -29,20 +32,20 @@ pub struct Reply {
     /// The number, or 0 where nothing is refused.
     pub number: u8,
     /// What the number or the answer names, in the order of the table of numbers (docs/MANUAL.md, part 11).
-    pub values: [u32; 8],
+    pub values: [u64; 8],
 }
 
 impl Reply {
     fn new(number: u8, named: &[usize]) -> Reply {
         let mut values = [0; 8];
         for (value, &name) in values.iter_mut().zip(named) {
-            *value = name as u32;
+            *value = name as u64;
         }
         Reply { number, values }
     }
 
     fn with_steps(mut self, steps: u32) -> Reply {
-        self.values[7] = steps;
+        self.values[7] = steps.into();
         self
     }
 }
@@ -58,7 +61,8 @@ impl From<Broken> for Reply {
 
 const ABSENT: u8 = 18;
 const SHORT_SCRATCH: u8 = 19;
-const SHORT_ROW: u8 = 20;
+/// Of a row, or of the buffer for a text.
+const SHORT_BUFFER: u8 = 20;
 
 /// Opens the bundle: the counts of classes, functions, signatures and methods.
 pub fn open(bundle: &[u8]) -> Reply {
@@ -69,7 +73,7 @@ pub fn open(bundle: &[u8]) -> Reply {
 }
 
 /// Whether class `a` is under class `b`.
-pub fn ancestry(bundle: &[u8], scratch: &mut [u8], a: u32, b: u32) -> Reply {
+pub fn ancestry(bundle: &[u8], scratch: &mut [u8], a: u64, b: u64) -> Reply {
     let (bundle, matrix) = match prepare(bundle, scratch) {
         Err(refusal) => return refusal,
         Ok(prepared) => prepared,
@@ -82,7 +86,7 @@ pub fn ancestry(bundle: &[u8], scratch: &mut [u8], a: u32, b: u32) -> Reply {
 }
 
 /// The method that a send finds.
-pub fn lookup(bundle: &[u8], scratch: &mut [u8], function: u32, arguments: [u32; 3]) -> Reply {
+pub fn lookup(bundle: &[u8], scratch: &mut [u8], function: u64, arguments: [u64; 3]) -> Reply {
     let (bundle, matrix) = match prepare(bundle, scratch) {
         Err(refusal) => return refusal,
         Ok(prepared) => prepared,
@@ -99,13 +103,13 @@ pub fn lookup(bundle: &[u8], scratch: &mut [u8], function: u32, arguments: [u32;
 }
 
 /// The static type of a send, written to the row.
-pub fn send_type(bundle: &[u8], scratch: &mut [u8], row: &mut [u8], function: u32, arguments: [u32; 3]) -> Reply {
+pub fn send_type(bundle: &[u8], scratch: &mut [u8], row: &mut [u8], function: u64, arguments: [u64; 3]) -> Reply {
     let (bundle, matrix) = match prepare(bundle, scratch) {
         Err(refusal) => return refusal,
         Ok(prepared) => prepared,
     };
     if row.len() < ROW {
-        return Reply::new(SHORT_ROW, &[]);
+        return Reply::new(SHORT_BUFFER, &[]);
     }
     let (f, t) = numbers(function, arguments);
     if !send_present(&bundle, f, t) {
@@ -132,7 +136,7 @@ pub fn check(bundle: &[u8], scratch: &mut [u8]) -> Reply {
 }
 
 /// The coverage rule for one signature and one tuple.
-pub fn witness(bundle: &[u8], scratch: &mut [u8], signature: u32, arguments: [u32; 3]) -> Reply {
+pub fn witness(bundle: &[u8], scratch: &mut [u8], signature: u64, arguments: [u64; 3]) -> Reply {
     let (bundle, matrix) = match prepare(bundle, scratch) {
         Err(refusal) => return refusal,
         Ok(prepared) => prepared,
@@ -154,7 +158,7 @@ pub fn witness(bundle: &[u8], scratch: &mut [u8], signature: u32, arguments: [u3
 }
 
 /// Where the method's code lies in the bundle: its offset and its length.
-pub fn body(bundle: &[u8], method: u32) -> Reply {
+pub fn body(bundle: &[u8], method: u64) -> Reply {
     let bundle = match Bundle::open(bundle) {
         Err(broken) => return broken.into(),
         Ok(bundle) => bundle,
@@ -166,7 +170,7 @@ pub fn body(bundle: &[u8], method: u32) -> Reply {
 }
 
 /// A run of one send.
-pub fn run(bundle: &[u8], scratch: &mut [u8], function: u32, arguments: [u32; 3], count: u32) -> Reply {
+pub fn run(bundle: &[u8], scratch: &mut [u8], function: u64, arguments: [u64; 3], count: u32) -> Reply {
     let (bundle, matrix) = match prepare(bundle, scratch) {
         Err(refusal) => return refusal,
         Ok(prepared) => prepared,
@@ -180,7 +184,7 @@ pub fn run(bundle: &[u8], scratch: &mut [u8], function: u32, arguments: [u32; 3]
 
 /// A run of one send on an accepted bundle. A refusal of the run comes first, then the check, then an opening send that
 /// no signature covers, which is 18 with first value 1.
-pub fn run_accepted(bundle: &[u8], scratch: &mut [u8], function: u32, arguments: [u32; 3], count: u32) -> Reply {
+pub fn run_accepted(bundle: &[u8], scratch: &mut [u8], function: u64, arguments: [u64; 3], count: u32) -> Reply {
     let (bundle, matrix) = match prepare(bundle, scratch) {
         Err(refusal) => return refusal,
         Ok(prepared) => prepared,
@@ -199,6 +203,18 @@ pub fn run_accepted(bundle: &[u8], scratch: &mut [u8], function: u32, arguments:
     ended(machine::run(&bundle, &matrix, f, t, count))
 }
 
+/// The listing, written to the start of the buffer: its length.
+pub fn listing(bundle: &[u8], text: &mut [u8]) -> Reply {
+    let lines = listing::lines(bundle);
+    match text.get_mut(..lines.len()) {
+        None => Reply::new(SHORT_BUFFER, &[]),
+        Some(start) => {
+            start.copy_from_slice(lines.as_bytes());
+            Reply::new(0, &[lines.len()])
+        }
+    }
+}
+
 /// Opens the bundle and fills the scratch, or says why not.
 fn prepare(bundle: &[u8], scratch: &mut [u8]) -> Result<(Bundle, Matrix), Reply> {
     let bundle = Bundle::open(bundle)?;
@@ -214,7 +230,8 @@ fn prepare(bundle: &[u8], scratch: &mut [u8]) -> Result<(Bundle, Matrix), Reply>
     Ok((bundle, matrix))
 }
 
-fn numbers(first: u32, arguments: [u32; 3]) -> (usize, Triple) {
+/// The numbers of a call. Nothing is cut off where a `usize` has 64 bits, as on the library's own machines.
+fn numbers(first: u64, arguments: [u64; 3]) -> (usize, Triple) {
     (first as usize, arguments.map(|a| a as usize))
 }
 

@@ -1,19 +1,19 @@
 //! The worked cases of the rules.
 
 use builder::{chart_3, chart_4, chart_5, looping, Parts};
-use plain::{Reply, ROW, SCRATCH};
+use plain::{Reply, ROW, SCRATCH, TEXT};
 
-fn reply(number: u8, named: &[u32]) -> Reply {
+fn reply(number: u8, named: &[u64]) -> Reply {
     let mut values = [0; 8];
     values[..named.len()].copy_from_slice(named);
     Reply { number, values }
 }
 
-fn looked_up(parts: &Parts, a: u32, b: u32) -> Reply {
+fn looked_up(parts: &Parts, a: u64, b: u64) -> Reply {
     plain::lookup(&parts.bytes(), &mut [7; SCRATCH], 0, [a, b, 0])
 }
 
-fn ran(parts: &Parts, arguments: [u32; 3], count: u32) -> Reply {
+fn ran(parts: &Parts, arguments: [u64; 3], count: u32) -> Reply {
     plain::run(&parts.bytes(), &mut [7; SCRATCH], 0, arguments, count)
 }
 
@@ -79,4 +79,18 @@ fn openings() {
     assert_eq!(plain::open(&parts.bytes()), reply(0, &[128, 0, 0, 0]));
     parts.class(true, &[0]);
     assert_eq!(plain::open(&parts.bytes()), reply(3, &[]));
+}
+
+#[test]
+fn listings() {
+    let mut text = [9; TEXT];
+    let expected = b"classes 8 functions 1 signatures 1 methods 3\nrefused 11 signature 0 send 0 2 4 methods 0 1\n";
+    let bundle = chart_3().bytes();
+    assert_eq!(plain::listing(&bundle, &mut text), reply(0, &[expected.len() as u64]));
+    assert_eq!(text[..expected.len()], expected[..]);
+    assert!(text[expected.len()..].iter().all(|&byte| byte == 9));
+    let mut short = [9; 90];
+    assert_eq!(expected.len(), short.len() + 1);
+    assert_eq!(plain::listing(&bundle, &mut short), reply(20, &[]));
+    assert_eq!(short, [9; 90]);
 }

@@ -1,12 +1,8 @@
--- `curiumtoad_c::curiumtoad_lookup` meets its contract: the reply to the call's answer is written, and each of its values fits 32 bits.
+-- `curiumtoad_c::curiumtoad_lookup` meets its contract: the reply to the call's answer is handed over.
 -- Assumes nothing.
 use borrow.Author.Needs.{needs}
-use mathlib.Core.List.{[], _∷_}
-use lib.ListN.{length}
-use Rattle.rules.specs.Calls.{lookupCall}
-use Rattle.curiumtoad_c.specs.Exported.{exportedNumber, method}
-use Rattle.curiumtoad_c.proofs.Fitting.{exported, four-small}
-use Rattle.curiumtoad_c.proofs.Within.{lookup-small}
+use Rattle.reply.specs.Replies.{reply, method}
+use Rattle.curiumtoad_c.proofs.Handing.{handed}
 use Rattle.curiumtoad_c.proofs.curiumtoad_lookup.Statement.{statement}
 use Rattle.curiumtoad_c.proofs.curiumtoad_lookup.Tie as tie
 
@@ -14,12 +10,7 @@ returns : tie.Need-returns
 returns c =
     let f = c .before in
     let e = f .before .before .before .before in
-    let g = e .before .before .before .before in
-    let (n, v) = exported exportedNumber method (lookupCall (g .args .bundle .now) (length (g .args .scratch .now)) (g .args .function) (g .args .a0 ∷ g .args .a1 ∷ g .args .a2 ∷ []))
-    (e .lookup .ensures .0) (f .of-lookup .ensures) (c .give .ensures)
-    (lookup-small (g .args .bundle .now) (length (g .args .scratch .now)) (g .args .function) (g .args .a0 ∷ g .args .a1 ∷ g .args .a2 ∷ [])
-    (four-small (g .fits .function) (g .fits .a0) (g .fits .a1) (g .fits .a2))) in
-    (n, (v, e .lookup .ensures .1))
+    (handed (reply method) (e .lookup .ensures .0) (f .of-lookup .ensures) (c .give .ensures), e .lookup .ensures .1)
 
 pub curiumtoad-lookup-spec : {M : Type 1} → statement M
 curiumtoad-lookup-spec =

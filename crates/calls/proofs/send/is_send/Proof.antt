@@ -9,7 +9,7 @@ use Rattle.calls.proofs.send.is_send.Tie as tie
 returns-2 : tie.Need-returns-2
 returns-2 c =
     let a = c .before .before in
-    let g = a .before .before .before .before .before in
+    let g = a .before .before .before .before .before .before in
     c .is-tuple .ensures ∙ present-function (g .pre) _ _ (search needs) (a .arity .ensures .0)
 
 pub is-send-spec : {M : Type 1} → statement M

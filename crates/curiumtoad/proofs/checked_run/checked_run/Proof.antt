@@ -3,9 +3,9 @@
 use borrow.Author.Needs.{needs}
 use Prim.Native.Nat.{ℕ}
 use mathlib.Core.Path.{ap, _∙_}
-use mathlib.Core.List.{[], _∷_}
 use lib.ListN.{length}
 use Rattle.rules.specs.Calls.{runCall, scratchAfter}
+use Rattle.dispatch.specs.Send.{tupleOf}
 use Rattle.curiumtoad.proofs.Judging.{judged-alike, scratch-length, scratch-twice}
 use Rattle.curiumtoad.proofs.checked_run.checked_run.Statement.{statement}
 use Rattle.curiumtoad.proofs.checked_run.checked_run.Tie as tie
@@ -18,12 +18,12 @@ returns c =
     let b = g .args .bundle .now in
     let filled = k .check .ensures .1 in
     let long = ap length filled ∙ scratch-length b (g .args .scratch .now) in
-    let said = r .run .ensures .0 ∙ ap (λ (n : ℕ). runCall b n (g .args .function) (g .args .a0 ∷ g .args .a1 ∷ g .args .a2 ∷ []) (g .args .count)) long in (
+    let said = r .run .ensures .0 ∙ ap (λ (n : ℕ). runCall b n (g .args .send .function) (tupleOf (g .args .send)) (g .args .count)) long in (
       k .check .ensures .0,
       (
         said,
         (
-          judged-alike b (length (g .args .scratch .now)) (g .args .function) (g .args .a0 ∷ g .args .a1 ∷ g .args .a2 ∷ []) (g .args .count) (k .check .result) (r .run .result)
+          judged-alike b (length (g .args .scratch .now)) (g .args .send .function) (tupleOf (g .args .send)) (g .args .count) (k .check .result) (r .run .result)
               (k .check .ensures .0) said,
           r .run .ensures .1 ∙ ap (scratchAfter b) filled ∙ scratch-twice b (g .args .scratch .now),
         ),

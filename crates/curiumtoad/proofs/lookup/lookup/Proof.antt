@@ -2,8 +2,8 @@
 -- Assumes nothing.
 use borrow.Author.Needs.{needs}
 use mathlib.Core.Path.{sym, _∙_}
-use mathlib.Core.List.{[], _∷_}
 use Rattle.rules.specs.Calls.{lookupIn, lookupCall}
+use Rattle.dispatch.specs.Send.{tupleOf}
 use Rattle.curiumtoad.proofs.Called.{refused-call, when-prepared, prepared-by}
 use Rattle.curiumtoad.proofs.lookup.lookup.Statement.{statement}
 use Rattle.curiumtoad.proofs.lookup.lookup.Tie as tie
@@ -13,7 +13,7 @@ unfolding lookupCall
 returns c =
     let p = c .before .before .before .before .before in
     let a = p .before .before .before .before .args in
-    (sym (refused-call (a .bundle .now) (a .scratch .now) (lookupIn (a .function) (a .a0 ∷ a .a1 ∷ a .a2 ∷ [])) (p .prepare .ensures .0) (c .refusal .ensures)), p .prepare .ensures .1)
+    (sym (refused-call (a .bundle .now) (a .scratch .now) (lookupIn (a .send .function) (tupleOf (a .send))) (p .prepare .ensures .0) (c .refusal .ensures)), p .prepare .ensures .1)
 
 lookup-in-requires : tie.Need-lookup-in-requires
 lookup-in-requires c κs =
@@ -29,7 +29,7 @@ returns-2 c =
     let p = k .before .before .before .before in
     let a = p .before .before .before .before .args in
     let ready = rw (k .prepared .given .1) at (p .prepare .ensures .0) in
-    (c .lookup-in .ensures ∙ sym (when-prepared (a .bundle .now) (a .scratch .now) (lookupIn (a .function) (a .a0 ∷ a .a1 ∷ a .a2 ∷ [])) ready), p .prepare .ensures .1)
+    (c .lookup-in .ensures ∙ sym (when-prepared (a .bundle .now) (a .scratch .now) (lookupIn (a .send .function) (tupleOf (a .send))) ready), p .prepare .ensures .1)
 
 pub lookup-spec : {M : Type 1} → statement M
 lookup-spec =

@@ -2,12 +2,12 @@
 -- Assumes nothing.
 use borrow.Author.Needs.{needs}
 use mathlib.Core.Path.{sym, ap, _∙_}
-use mathlib.Core.List.{[], _∷_}
 use lib.ListN.{length}
 use borrow.Author.Tests.{not-true, not-false}
 use Rattle.rules.specs.Model.{modelOf}
 use Rattle.rules.specs.Calls.{used}
 use Rattle.bundle_rules.proofs.Opened.{opened-of}
+use Rattle.dispatch.specs.Send.{tupleOf}
 use Rattle.machine.specs.Outcome.{outcomeOf}
 use Rattle.calls.specs.Said.{runSaid}
 use Rattle.curiumtoad.proofs.Accepting.{accepted-check, ended-call, not-accepted, outcome-unstopped, sound-end, accepts-end, accepted-opens, accepted-prepared, answered-send, covered-opening, not-covered}
@@ -25,8 +25,8 @@ returns-2 c =
     let g = k .before .before .before .before in
     let b = g .args .bundle .now in
     let n = length (g .args .scratch .now) in
-    let f = g .args .function in
-    let tuple = g .args .a0 ∷ g .args .a1 ∷ g .args .a2 ∷ [] in
+    let f = g .args .send .function in
+    let tuple = tupleOf (g .args .send) in
     let count = g .args .count in
     let a = c .before .before .before .before .answer .given in
     let ended = ended-call b n f tuple count (a .0 .0) (a .1) (k .checked-run .ensures .1 .0) in
@@ -39,8 +39,8 @@ returns-3 c =
     let g = k .before .before .before .before in
     let b = g .args .bundle .now in
     let n = length (g .args .scratch .now) in
-    let f = g .args .function in
-    let tuple = g .args .a0 ∷ g .args .a1 ∷ g .args .a2 ∷ [] in
+    let f = g .args .send .function in
+    let tuple = tupleOf (g .args .send) in
     let count = g .args .count in
     let a = c .before .before .before .before .before .before .answer .given in
     let ended = ended-call b n f tuple count (a .0 .0) (a .1) (k .checked-run .ensures .1 .0) in
@@ -54,8 +54,8 @@ is-covered-requires c κs =
     let g = k .before .before .before .before in
     let b = g .args .bundle .now in
     let n = length (g .args .scratch .now) in
-    let f = g .args .function in
-    let tuple = g .args .a0 ∷ g .args .a1 ∷ g .args .a2 ∷ [] in
+    let f = g .args .send .function in
+    let tuple = tupleOf (g .args .send) in
     let count = g .args .count in
     let a = c .before .before .before .before .before .before .before .before .answer .given in
     let ended = ended-call b n f tuple count (a .0 .0) (a .1) (k .checked-run .ensures .1 .0) in
@@ -70,8 +70,8 @@ returns-4 c =
     let g = k .before .before .before .before in
     let b = g .args .bundle .now in
     let n = length (g .args .scratch .now) in
-    let f = g .args .function in
-    let tuple = g .args .a0 ∷ g .args .a1 ∷ g .args .a2 ∷ [] in
+    let f = g .args .send .function in
+    let tuple = tupleOf (g .args .send) in
     let count = g .args .count in
     let a = c .before .before .before .before .before .before .before .before .before .before .answer .given in
     let ended = ended-call b n f tuple count (a .0 .0) (a .1) (k .checked-run .ensures .1 .0) in
@@ -84,8 +84,8 @@ sound-end-requires c κs =
     let g = k .before .before .before .before in
     let b = g .args .bundle .now in
     let n = length (g .args .scratch .now) in
-    let f = g .args .function in
-    let tuple = g .args .a0 ∷ g .args .a1 ∷ g .args .a2 ∷ [] in
+    let f = g .args .send .function in
+    let tuple = tupleOf (g .args .send) in
     let count = g .args .count in
     let a = c .before .before .before .before .before .before .before .before .before .before .answer .given in
     let ended = ended-call b n f tuple count (a .0 .0) (a .1) (k .checked-run .ensures .1 .0) in
@@ -98,8 +98,8 @@ returns-5 c =
     let g = k .before .before .before .before in
     let b = g .args .bundle .now in
     let n = length (g .args .scratch .now) in
-    let f = g .args .function in
-    let tuple = g .args .a0 ∷ g .args .a1 ∷ g .args .a2 ∷ [] in
+    let f = g .args .send .function in
+    let tuple = tupleOf (g .args .send) in
     let count = g .args .count in
     let a = c .before .before .before .before .before .before .before .before .before .before .before .answer .given in
     let ended = ended-call b n f tuple count (a .0 .0) (a .1) (k .checked-run .ensures .1 .0) in

@@ -2,9 +2,9 @@
 -- Assumes nothing.
 use borrow.Author.Needs.{needs}
 use mathlib.Core.Path.{sym}
-use mathlib.Core.List.{[], _∷_}
 use lib.ListN.{length}
 use Rattle.rules.specs.Calls.{sendTypeIn, sendTypeCall, rowAfter}
+use Rattle.dispatch.specs.Send.{tupleOf}
 use Rattle.curiumtoad.proofs.Called.{refused-call, when-prepared, prepared-by, refusal-blank, refusal-row}
 use Rattle.curiumtoad.proofs.send_type.send_type.Statement.{statement}
 use Rattle.curiumtoad.proofs.send_type.send_type.Tie as tie
@@ -14,7 +14,7 @@ unfolding sendTypeCall rowAfter
 returns c =
     let p = c .before .before .before .before .before in
     let a = p .before .before .before .before .before .args in
-    let e = refused-call (a .bundle .now) (a .scratch .now) (sendTypeIn (length (a .row .now)) (a .function) (a .a0 ∷ a .a1 ∷ a .a2 ∷ [])) (p .prepare .ensures .0) (c .refusal .ensures) in
+    let e = refused-call (a .bundle .now) (a .scratch .now) (sendTypeIn (length (a .row .now)) (a .send .function) (tupleOf (a .send))) (p .prepare .ensures .0) (c .refusal .ensures) in
     rw e (sym (refusal-blank (c .refusal .result)), (p .prepare .ensures .1, sym (refusal-row _ _ (c .refusal .result))))
 
 send-type-in-requires : tie.Need-send-type-in-requires
@@ -32,7 +32,7 @@ returns-2 c =
     let p = k .before .before .before .before in
     let a = p .before .before .before .before .before .args in
     let ready = rw (k .prepared .given .1) at (p .prepare .ensures .0) in
-    rw (when-prepared (a .bundle .now) (a .scratch .now) (sendTypeIn (length (a .row .now)) (a .function) (a .a0 ∷ a .a1 ∷ a .a2 ∷ [])) ready)
+    rw (when-prepared (a .bundle .now) (a .scratch .now) (sendTypeIn (length (a .row .now)) (a .send .function) (tupleOf (a .send))) ready)
     (s .send-type-in .ensures .0, (p .prepare .ensures .1, s .send-type-in .ensures .1))
 
 pub send-type-spec : {M : Type 1} → statement M

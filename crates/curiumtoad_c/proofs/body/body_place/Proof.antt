@@ -1,11 +1,11 @@
 -- `curiumtoad_c::body::body_place` meets its contract: a layout refusal, an absent method, or the span of the body.
 -- Assumes nothing.
 use borrow.Author.Needs.{needs}
-use mathlib.Core.Path.{_∙_}
+use mathlib.Core.Path.{sym, _∙_}
 use Rattle.bundle_rules.proofs.Opened.{opened-of}
 use Rattle.curiumtoad.proofs.Called.{view-refused, view-absent, view-given}
-use Rattle.curiumtoad_c.proofs.Replies.{said-layout}
-use Rattle.curiumtoad_c.proofs.Within.{span-values}
+use Rattle.reply.proofs.Replies.{layout-reply}
+use Rattle.curiumtoad_c.proofs.Placing.{span-reply}
 use Rattle.curiumtoad_c.proofs.body.body_place.Statement.{statement}
 use Rattle.curiumtoad_c.proofs.body.body_place.Tie as tie
 
@@ -16,14 +16,14 @@ returns c =
     let g = o .before .before in
     let f = t .enum-told .given .0 .0 in
     rw (view-refused (g .args .bundle .now) (g .args .method) f (rw (t .enum-told .given .1) at (o .«open» .ensures .1)))
-    (said-layout f (rw (t .enum-told .given .1) at (c .of-opening .ensures)))
+    (rw (t .enum-told .given .1) at (c .of-opening .ensures) ∙ sym (layout-reply f))
 
 returns-2 : tie.Need-returns-2
 returns-2 c =
     let k = c .before .before .before .before in
     let o = k .before .before in
     let g = o .before .before in
-    rw (view-absent (g .args .bundle .now) (g .args .method) (rw (k .opening .given .1) at (o .«open» .ensures .1)) (search needs)) (c .short .ensures)
+    rw (view-absent (g .args .bundle .now) (g .args .method) (rw (k .opening .given .1) at (o .«open» .ensures .1)) (search needs)) (c .pair .ensures)
 
 body-span-requires : tie.Need-body-span-requires
 body-span-requires c κs =
@@ -38,7 +38,7 @@ returns-3 c =
     let g = o .before .before in
     let opened = rw (k .opening .given .1) at (o .«open» .ensures .1) in
     rw (view-given (g .args .bundle .now) (g .args .method) opened (search needs))
-    (c .short2 .ensures .0, c .short2 .ensures .1 ∙ span-values (g .args .bundle .now) (g .args .method) opened (search needs) (s .body-span .result) (s .body-span .ensures))
+    (c .pair2 .ensures ∙ span-reply (g .args .bundle .now) (g .args .method) opened (search needs) (s .body-span .result) (s .body-span .ensures))
 
 pub body-place-spec : {M : Type 1} → statement M
 body-place-spec =

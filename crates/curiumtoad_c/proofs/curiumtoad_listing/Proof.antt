@@ -1,0 +1,17 @@
+-- `curiumtoad_c::curiumtoad_listing` meets its contract: the reply to the call's answer is handed over.
+-- Assumes nothing.
+use borrow.Author.Needs.{needs}
+use Rattle.curiumtoad_c.proofs.Handing.{handed-as, told-number}
+use Rattle.curiumtoad_c.proofs.curiumtoad_listing.Statement.{statement}
+use Rattle.curiumtoad_c.proofs.curiumtoad_listing.Tie as tie
+
+returns : tie.Need-returns
+returns c =
+    let f = c .before in
+    let e = f .before .before .before .before in
+    let same = handed-as (f .reply .ensures) (c .give .ensures) in
+    record { answer = e .listing .result; lists = e .listing .ensures .1; handed = same; enough = λ h. told-number (e .listing .result) (e .listing .ensures .0 h) same }
+
+pub curiumtoad-listing-spec : {M : Type 1} → statement M
+curiumtoad-listing-spec =
+    tie.close (tie.spec (λ c κs. search needs) (λ c κs. search needs) (λ c κs. search needs) (λ c. search needs) returns)

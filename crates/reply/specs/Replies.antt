@@ -1,0 +1,70 @@
+-- An answer as a reply: the number of what is refused (M 11), 0 where nothing is, and eight values, those that are not named being 0.
+-- Assumes nothing.
+use Prim.Native.Nat.{ℕ}
+use mathlib.Core.Bool.{Bool}
+use mathlib.Core.List.{List, [], _∷_, _++_}
+use lib.ListN.{take, replicate, set}
+use Rattle.rules.specs.Layout.{Answer, gives, refuses}
+use Rattle.rules.specs.Machine.{Ending, value, spent, deep, stopped, Outcome}
+use Rattle.rules.specs.Calls.{bit}
+use Rattle.calls.specs.declared.check.Verdict.the-variants as verdict
+use Rattle.calls.specs.Said.{refusalSaid, verdictSaid}
+use Rattle.curiumtoad.specs.declared.run_accepted.AcceptedRun as accepted-type
+use Rattle.curiumtoad.specs.declared.run_accepted.AcceptedRun.the-variants.{Value, Spent, Deep, NotAccepted, NotCovered, Refused}
+use Rattle.reply.specs.declared.Reply.{Reply}
+
+-- the values that there are, then zeros, eight in all
+abbrev pub eight : List ℕ → List ℕ
+eight values = take 8 (values ++ replicate 8 0)
+
+abbrev pub numbered : ℕ → List ℕ → Reply
+numbered number values = record { number = number; values = eight values }
+
+module _ {A : Type 0} where
+  -- the first argument gives the values of what the call gives
+  abbrev pub reply : (A → List ℕ) → Answer A → Reply
+  reply given (gives x) = numbered 0 (given x)
+  reply given (refuses number values) = numbered number values
+
+  -- a call that gives no values: what it gives is in the row, or is that a rule holds
+  abbrev pub nothing : A → List ℕ
+  nothing x = []
+
+-- opening: its four counts
+abbrev pub counts : List ℕ → List ℕ
+counts values = values
+
+-- ancestry: 1 for yes, 0 for no
+abbrev pub yesOrNo : Bool → List ℕ
+yesOrNo t = bit t ∷ []
+
+-- lookup: the method
+abbrev pub method : ℕ → List ℕ
+method m = m ∷ []
+
+-- The ending of a run has a number where the run was stopped. Else its number is 0, and its first value tells a value from Spent and Deep.
+abbrev pub endingReply : Ending → Reply
+endingReply (value c) = numbered 0 (0 ∷ c ∷ [])
+endingReply spent = numbered 0 (1 ∷ [])
+endingReply deep = numbered 0 (2 ∷ [])
+endingReply (stopped number values) = numbered number values
+
+-- the steps of a run are its last value
+abbrev pub withSteps : Reply → ℕ → Reply
+withSteps r steps = record { number = r .number; values = set (r .values) 7 steps }
+
+abbrev pub outcomeReply : Outcome → Reply
+outcomeReply o = withSteps (endingReply (o .ending)) (o .steps)
+
+abbrev pub runReply : Answer Outcome → Reply
+runReply (gives o) = outcomeReply o
+runReply (refuses number values) = numbered number values
+
+-- The run of an accepted bundle. A send that no signature covers is 18 with the value 1, to tell it from a call that is wrong.
+abbrev pub acceptedReply : accepted-type.AcceptedRun → Reply
+acceptedReply (Value c steps) = withSteps (endingReply (value c)) steps
+acceptedReply (Spent steps) = withSteps (endingReply spent) steps
+acceptedReply (Deep steps) = withSteps (endingReply deep) steps
+acceptedReply (NotAccepted found) = reply nothing (verdictSaid (verdict.Refused found))
+acceptedReply NotCovered = numbered 18 (1 ∷ [])
+acceptedReply (Refused r) = reply {A = Unit {0}} nothing (refusalSaid r)

@@ -1,0 +1,143 @@
+/* Makes each call from C on sample bundles and holds the header's names to the answers: numbers, places of values, endings and reasons.
+ *
+ * usage: answers FOLDER
+ */
+#include "bundle.h"
+
+#include <string.h>
+
+/* A sample for each number that a check can give. */
+static const struct {
+    const char *sample;
+    int number;
+} checks[] = {
+    {"chart-4", CURIUMTOAD_OK},
+    {"23-bytes", CURIUMTOAD_BAD_LENGTH},
+    {"directory-gap", CURIUMTOAD_BAD_DIRECTORY},
+    {"129-classes", CURIUMTOAD_BAD_COUNTS},
+    {"own-parent", CURIUMTOAD_BAD_CLASS},
+    {"four-arguments", CURIUMTOAD_BAD_FUNCTION},
+    {"absent-result", CURIUMTOAD_BAD_SIGNATURE},
+    {"empty-body", CURIUMTOAD_BAD_METHOD},
+    {"twin-methods", CURIUMTOAD_TWIN_METHOD},
+    {"unknown-operation", CURIUMTOAD_BAD_CODE},
+    {"no-method", CURIUMTOAD_NO_METHOD},
+    {"chart-3", CURIUMTOAD_AMBIGUOUS},
+    {"narrow-declared", CURIUMTOAD_NARROW_DECLARED},
+    {"wide-result", CURIUMTOAD_WIDE_RESULT},
+    {"two-values", CURIUMTOAD_BAD_STACK},
+    {"abstract-new", CURIUMTOAD_ABSTRACT_NEW},
+    {"no-licence", CURIUMTOAD_NO_LICENCE},
+    {"loose-result", CURIUMTOAD_LOOSE_RESULT},
+};
+
+static const char *folder;
+static struct bundle b;
+static uint8_t scratch[CURIUMTOAD_SCRATCH_BYTES], row[CURIUMTOAD_ROW_BYTES], text[CURIUMTOAD_TEXT_BYTES];
+static uint64_t v[CURIUMTOAD_VALUE_COUNT];
+static int held, wrong;
+
+#define HOLDS(claim) holds(claim, #claim, __LINE__)
+
+static void holds(int claim, const char *words, int line)
+{
+    held++;
+    if (!claim) {
+        wrong++;
+        printf("%s line %d: not so: %s\n", __FILE__, line, words);
+    }
+}
+
+static void use(const char *sample)
+{
+    char path[4096];
+    if (snprintf(path, sizeof path, "%s/%s.bundle", folder, sample) >= (int)sizeof path)
+        fail("the folder's name is too long");
+    read_bundle(path, &b);
+}
+
+/* The calls on the bundle in use, with the buffers above. */
+#define BUNDLE b.bytes, b.size
+#define SCRATCH scratch, sizeof scratch
+
+static void openings(void)
+{
+    use("chart-3");
+    HOLDS(curiumtoad_open(BUNDLE, v) == CURIUMTOAD_OK);
+    HOLDS(v[CURIUMTOAD_AT_CLASSES] == 8 && v[CURIUMTOAD_AT_FUNCTIONS] == 1 && v[CURIUMTOAD_AT_SIGNATURES] == 1 && v[CURIUMTOAD_AT_METHODS] == 3);
+    HOLDS(curiumtoad_body(BUNDLE, 1, v) == CURIUMTOAD_OK);
+    HOLDS(v[CURIUMTOAD_AT_CODE_START] == 123 && v[CURIUMTOAD_AT_CODE_LENGTH] == 2);
+    use("own-parent");
+    HOLDS(curiumtoad_open(BUNDLE, v) == CURIUMTOAD_BAD_CLASS && v[CURIUMTOAD_AT_RECORD] == 1);
+}
+
+static void sends(void)
+{
+    use("chart-3");
+    HOLDS(curiumtoad_ancestry(BUNDLE, SCRATCH, 4, 3, v) == CURIUMTOAD_OK && v[CURIUMTOAD_AT_UNDER] == 1);
+    HOLDS(curiumtoad_ancestry(BUNDLE, SCRATCH, 3, 4, v) == CURIUMTOAD_OK && v[CURIUMTOAD_AT_UNDER] == 0);
+    HOLDS(curiumtoad_ancestry(BUNDLE, SCRATCH, 3, UINT64_C(4294967300), v) == CURIUMTOAD_ABSENT);
+    HOLDS(curiumtoad_ancestry(BUNDLE, scratch, sizeof scratch - 1, 3, 4, v) == CURIUMTOAD_SHORT_SCRATCH);
+    HOLDS(curiumtoad_lookup(BUNDLE, SCRATCH, 0, 1, 3, 0, v) == CURIUMTOAD_OK && v[CURIUMTOAD_AT_FOUND] == 2);
+    HOLDS(curiumtoad_lookup(BUNDLE, SCRATCH, 0, 2, 4, 0, v) == CURIUMTOAD_AMBIGUOUS);
+    HOLDS(v[CURIUMTOAD_AT_SEND_FUNCTION] == 0 && v[CURIUMTOAD_AT_SEND_A0] == 2 && v[CURIUMTOAD_AT_SEND_A1] == 4 && v[CURIUMTOAD_AT_SEND_A2] == 0);
+    HOLDS(v[CURIUMTOAD_AT_SEND_METHOD] == 0 && v[CURIUMTOAD_AT_SEND_RIVAL] == 1);
+    use("chart-5");
+    HOLDS(curiumtoad_send_type(BUNDLE, SCRATCH, row, sizeof row, 0, 2, 4, 0, v) == CURIUMTOAD_OK && row[5] == 1 && row[6] == 0 && row[7] == 1);
+    HOLDS(curiumtoad_send_type(BUNDLE, SCRATCH, row, sizeof row - 1, 0, 2, 4, 0, v) == CURIUMTOAD_SHORT_BUFFER);
+}
+
+static void findings(void)
+{
+    use("chart-3");
+    HOLDS(curiumtoad_check(BUNDLE, SCRATCH, v) == CURIUMTOAD_AMBIGUOUS);
+    HOLDS(v[CURIUMTOAD_AT_BROKEN_METHOD] == 0 && v[CURIUMTOAD_AT_BROKEN_RIVAL] == 1);
+    /* The result of signature 1 becomes class 6, which method 1 does not keep to. The signatures begin where bytes 12 and 13 say, and have five bytes each. */
+    use("chart-5");
+    b.bytes[b.bytes[12] + 256 * b.bytes[13] + 9] = 6;
+    HOLDS(curiumtoad_witness(BUNDLE, SCRATCH, 1, 2, 3, 0, v) == CURIUMTOAD_WIDE_RESULT);
+    HOLDS(v[CURIUMTOAD_AT_BROKEN_SIGNATURE] == 1 && v[CURIUMTOAD_AT_BROKEN_FUNCTION] == 0 && v[CURIUMTOAD_AT_BROKEN_METHOD] == 1);
+    HOLDS(v[CURIUMTOAD_AT_BROKEN_A0] == 2 && v[CURIUMTOAD_AT_BROKEN_A1] == 3 && v[CURIUMTOAD_AT_BROKEN_A2] == 0);
+    use("missing-argument");
+    HOLDS(curiumtoad_check(BUNDLE, SCRATCH, v) == CURIUMTOAD_BAD_STACK && v[CURIUMTOAD_AT_BODY_METHOD] == 1 && v[CURIUMTOAD_AT_BODY_INSTRUCTION] == 0);
+}
+
+static void runs(void)
+{
+    use("chart-4");
+    HOLDS(curiumtoad_run(BUNDLE, SCRATCH, 0, 2, 4, 0, 9, v) == CURIUMTOAD_OK && v[CURIUMTOAD_AT_ENDING] == CURIUMTOAD_ENDING_VALUE);
+    HOLDS(v[CURIUMTOAD_AT_CLASS] == 7 && v[CURIUMTOAD_AT_STEPS] == 1);
+    HOLDS(curiumtoad_run_accepted(BUNDLE, SCRATCH, 0, 6, 7, 0, 9, v) == CURIUMTOAD_ABSENT && v[CURIUMTOAD_AT_REASON] == CURIUMTOAD_REASON_NOT_COVERED);
+    HOLDS(curiumtoad_run_accepted(BUNDLE, SCRATCH, 0, 8, 4, 0, 9, v) == CURIUMTOAD_ABSENT && v[CURIUMTOAD_AT_REASON] == CURIUMTOAD_REASON_WRONG_CALL);
+    use("loop");
+    HOLDS(curiumtoad_run_accepted(BUNDLE, SCRATCH, 0, 0, 0, 0, 31, v) == CURIUMTOAD_OK && v[CURIUMTOAD_AT_ENDING] == CURIUMTOAD_ENDING_SPENT);
+    HOLDS(curiumtoad_run_accepted(BUNDLE, SCRATCH, 0, 0, 0, 0, 32, v) == CURIUMTOAD_OK && v[CURIUMTOAD_AT_ENDING] == CURIUMTOAD_ENDING_DEEP);
+}
+
+static void listings(void)
+{
+    static const char expected[] = "classes 1 functions 1 signatures 1 methods 1\naccepted\n";
+    use("loop");
+    HOLDS(curiumtoad_listing(BUNDLE, text, sizeof text, v) == CURIUMTOAD_OK && v[CURIUMTOAD_AT_TEXT_LENGTH] == strlen(expected));
+    HOLDS(memcmp(text, expected, strlen(expected)) == 0);
+    HOLDS(curiumtoad_listing(BUNDLE, text, strlen(expected) - 1, v) == CURIUMTOAD_SHORT_BUFFER);
+}
+
+int main(int argc, char **argv)
+{
+    if (argc != 2)
+        fail("usage: answers FOLDER");
+    folder = argv[1];
+    HOLDS(curiumtoad_version() == CURIUMTOAD_VERSION);
+    for (size_t i = 0; i < sizeof checks / sizeof checks[0]; i++) {
+        use(checks[i].sample);
+        HOLDS(curiumtoad_check(BUNDLE, SCRATCH, v) == checks[i].number);
+    }
+    openings();
+    sends();
+    findings();
+    runs();
+    listings();
+    printf("%d claims of the header, %d wrong\n", held, wrong);
+    return wrong != 0;
+}
