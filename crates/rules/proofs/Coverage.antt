@@ -37,6 +37,10 @@ prefixed-in (j ∷ ks) ts {k} {u} (List·Memᴰ·head e) m =
     Memᴰ·append-left (prefixed ks ts) (Memᴰ·cast (ap (λ (x : ℕ). x ∷ u) e) (Memᴰ·map (λ t. j ∷ t) m))
 prefixed-in (j ∷ ks) ts (List·Memᴰ·tail h) m = Memᴰ·append-right (map (λ t. j ∷ t) ts) (prefixed-in ks ts h m)
 
+pub concrete-present : (M : Model) (v : ℕ) → concreteClass M v ≡ true → v < M .classes
+unfolding concreteClass
+concrete-present M v e = ltb-true v (M .classes) (and-left (ltb v (M .classes)) (M .concrete v) e)
+
 pub concrete-mem : (M : Model) (c : ℕ) {k : ℕ} → List·Memᴰ k (concreteUnder M c) → (concreteClass M k ≡ true) × (subclass M k c ≡ true)
 unfolding concreteUnder
 concrete-mem M c {k} h =
@@ -47,7 +51,7 @@ pub concrete-in : (M : Model) (c k : ℕ) → concreteClass M k ≡ true → sub
 unfolding concreteUnder concreteClass
 concrete-in M c k e s =
     keep-in (λ k. ltb k (M .classes) && M .concrete k && subclass M k c) (upto (M .classes))
-    (below-upto (M .classes) k (ltb-true k (M .classes) (and-left (ltb k (M .classes)) (M .concrete k) e)))
+    (below-upto (M .classes) k (concrete-present M k e))
     (and-both (ltb k (M .classes) && M .concrete k) (subclass M k c) e s)
 
 -- The tuples of a list of classes are the lists of concrete classes under them; of no class there is the empty one alone.
@@ -126,7 +130,7 @@ unfolding isSome
 some-of none e = absurd (false≢true e)
 some-of (some x) e = (x, refl)
 
-none-of : {A : Type 0} (r : Option A) → isSome r ≡ false → r ≡ none
+pub none-of : {A : Type 0} (r : Option A) → isSome r ≡ false → r ≡ none
 unfolding isSome
 none-of none e = refl
 none-of (some x) e = absurd (false≢true (sym e))

@@ -442,6 +442,25 @@ module _ {A B : Type 0} where
       ap (λ (t : Bool). p x y && t) (matching-snoc p xs a ys d (le-of-suc-le-suc h))
       ∙ sym (and-assoc (p x y) (matching p xs (take (length xs) ys)) (p a (getD ys (length xs) d)))
 
+  -- a list in two parts is matched part by part
+  pub matching-append : (p : A → B → Bool) (xs us : List A) (ys : List B)
+      → matching p (xs ++ us) ys ≡ (matching p xs (take (length xs) ys) && matching p us (drop (length xs) ys))
+  unfolding matching
+  matching-append p [] us ys = refl
+  matching-append p (x ∷ xs) us [] = refl
+  matching-append p (x ∷ xs) us (y ∷ ys) =
+      ap (λ (t : Bool). p x y && t) (matching-append p xs us ys)
+      ∙ sym (and-assoc (p x y) (matching p xs (take (length xs) ys)) (matching p us (drop (length xs) ys)))
+
+  -- of two elements that fare alike at a place, one may stand there for the other
+  pub matching-swap : (p : A → B → Bool) (xs : List A) (a b : A) (us : List A) (ys : List B) (d : B) → p a (getD ys (length xs) d) ≡ p b (getD ys (length xs) d)
+      → matching p (xs ++ (a ∷ us)) ys ≡ matching p (xs ++ (b ∷ us)) ys
+  unfolding matching
+  matching-swap p [] a b us [] d e = refl
+  matching-swap p [] a b us (y ∷ ys) d e = ap (λ (t : Bool). t && matching p us ys) e
+  matching-swap p (x ∷ xs) a b us [] d e = refl
+  matching-swap p (x ∷ xs) a b us (y ∷ ys) d e = ap (λ (t : Bool). p x y && t) (matching-swap p xs a b us ys d e)
+
 -- A relation that is reflexive or transitive where it has to be is so place by place.
 module _ {A : Type 0} where
   pub matching-refl : (p : A → A → Bool) (xs : List A) → ((x : A) → List·Memᴰ x xs → p x x ≡ true) → matching p xs xs ≡ true

@@ -89,7 +89,7 @@ alone-unbeaten M ms m h = every-from (λ n. eqb n m || not (asSpecific M n m)) m
     go n (inr q) = or-right (eqb n m) (not (asSpecific M n m)) (ap not q)
 
 -- The three cases of `select`, by whether the list is empty and whether it has a leader.
-select-found : (M : Model) (ms : List ℕ) (m : ℕ) → select M ms ≡ found m → List·Memᴰ m ms × (leads M ms m ≡ true)
+pub select-found : (M : Model) (ms : List ℕ) (m : ℕ) → select M ms ≡ found m → List·Memᴰ m ms × (leads M ms m ≡ true)
 unfolding select leaderOr
 select-found M [] m e = absurd (false≢true (cc))
 select-found M (x ∷ xs) m e = go (first (leads M (x ∷ xs)) (x ∷ xs)) refl

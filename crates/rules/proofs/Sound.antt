@@ -23,16 +23,12 @@ use Rattle.rules.proofs.Lists.{test, and-left, and-right, and-both, eve
 use Rattle.rules.proofs.Subclass.{subclass-itself, subclass-trans}
 use Rattle.rules.proofs.Lookup.{lookup-leader, candidate-places}
 use Rattle.rules.proofs.Types.{Licence, result-licence}
-use Rattle.rules.proofs.Coverage.{Holding, judge-holds, Acceptable, verdict-acceptable}
+use Rattle.rules.proofs.Coverage.{concrete-present, Holding, judge-holds, Acceptable, verdict-acceptable}
 use Rattle.rules.proofs.Wellformed.{opened-wellformed}
 
 -- A value conforms to a type when it is a concrete class under each class that generates the type.
 unfoldable pub conforms : Model → ℕ → Static → Bool
 conforms M v t = concreteClass M v && every (λ g. subclass M v g) t
-
-concrete-present : (M : Model) (v : ℕ) → concreteClass M v ≡ true → v < M .classes
-unfolding concreteClass
-concrete-present M v e = ltb-true v (M .classes) (and-left (ltb v (M .classes)) (M .concrete v) e)
 
 conforms-concrete : (M : Model) (v : ℕ) (t : Static) → conforms M v t ≡ true → concreteClass M v ≡ true
 unfolding conforms
