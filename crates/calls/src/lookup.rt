@@ -1,6 +1,7 @@
 // Lookup: which method a send finds.
 use crate::refusal::Refusal;
 use crate::send::classes_of;
+use dispatch::index::index_methods;
 use dispatch::lookup::lookup;
 use dispatch::select::Found;
 use dispatch::send::Send;
@@ -31,7 +32,8 @@ pub fn lookup_in(bundle: &[u8], b: Bundle, scratch: &[u8], send: Send) -> Lookup
     }
     let n = args.count;
     let classes = args.classes;
-    match lookup(bundle, b, scratch, send.function, &classes[..n]) {
+    let index = index_methods(bundle, b);
+    match lookup(bundle, b, scratch, &index, send.function, &classes[..n]) {
         Found::Method(m) => LookupAnswer::Method(m),
         Found::Missing => LookupAnswer::Missing(send),
         Found::Ambiguous(m, o) => LookupAnswer::Ambiguous(send, m, o),

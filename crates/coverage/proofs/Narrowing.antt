@@ -26,9 +26,9 @@ use Rattle.layout.proofs.Opened.{wellformed-of, counts-of}
 use Rattle.dispatch.specs.Places.{Arguments}
 use Rattle.dispatch.specs.Listed.{methodOf, Listed, listed, Candidates}
 use Rattle.dispatch.proofs.Listed.{each-method}
-use Rattle.coverage.specs.Dominance.{Enough}
-use Rattle.coverage.specs.Search.{candidateClass, admits, Filling}
-use Rattle.coverage.proofs.Dominating.{enough-same, enough-inside, enough-narrowed, enough-enough, enough-selected}
+use Rattle.coverage.specs.Dominance.{undominated, Enough}
+use Rattle.coverage.specs.Search.{candidateClass, isMethod, admits, Filling}
+use Rattle.coverage.proofs.Dominating.{enough-same, enough-inside, enough-narrowed, enough-written, enough-enough, enough-selected}
 
 module _ (M : Model) where
   -- a class is a candidate by whether it is concrete, then by whether it is under the signature's
@@ -51,7 +51,7 @@ module _ (M : Model) where
           and-both (ltb m (M .methods)) (eqb (M .function m) f) (lt-ltb m (M .methods) (upto-below (M .methods) k))
           (and-left (eqb (M .function m) f) (under M filled (take (length filled) (M .specialisers m))) e)
 
-  left-methods : (f : ℕ) (filled : List ℕ) → (m : ℕ) → List·Memᴰ m (applicableSoFar M f filled) → MethodOf M f m
+  pub left-methods : (f : ℕ) (filled : List ℕ) → (m : ℕ) → List·Memᴰ m (applicableSoFar M f filled) → MethodOf M f m
   left-methods f filled = each-method (left-listed f filled)
 
   left-few : (f : ℕ) (filled : List ℕ) → length (applicableSoFar M f filled) ≤ M .methods
@@ -60,7 +60,7 @@ module _ (M : Model) where
       omega (arith, keep-length (λ m. eqb (M .function m) f && under M filled (take (length filled) (M .specialisers m))) (upto (M .methods)), length-upto (M .methods))
 
   -- one class more is present
-  present-more : (xs : List ℕ) (k : ℕ) → present M xs ≡ true → k < M .classes → present M (xs ++ (k ∷ [])) ≡ true
+  pub present-more : (xs : List ℕ) (k : ℕ) → present M xs ≡ true → k < M .classes → present M (xs ++ (k ∷ [])) ≡ true
   unfolding present
   present-more xs k e h = every-from (λ c. ltb c (M .classes)) (xs ++ (k ∷ [])) (λ x m. one x (List·Memᴰ·append-cases xs m))
     where
@@ -72,9 +72,6 @@ module _ (M : Model) where
 part-listed : {M : Model} {f : ℕ} {all part : List ℕ} → Listed M f all → ((m : ℕ) → List·Memᴰ m part → List·Memᴰ m all) → Listed M f part
 part-listed {M} {f} {all} {part} (listed e) inside =
     listed (every-from (methodOf M f) part (λ m h. every-mem (methodOf M f) all e (inside m h)))
-
-pub kept-listed : {M : Model} {f : ℕ} {ms : List ℕ} → Listed M f ms → (p : ℕ → Bool) → Listed M f (keep p ms)
-kept-listed {M} {f} {ms} l p = part-listed l (λ m h. keep-mem p ms h .0)
 
 -- the filled places, with one more filled
 pub chosen-more : (chosen : List ℕ) (place k : ℕ) → place < length chosen → take (place + 1) (set chosen place k) ≡ take place chosen ++ (k ∷ [])
@@ -104,6 +101,10 @@ module _ {b : List ℕ} {t : Bundle} (o : Opened b t) {s f : ℕ} where
           methods = part-listed (left-listed (modelOf b) f (take place chosen)) (λ m h. enough-inside (modelOf b) place (g .methods) h);
         }
 
+    pub filling-methods : every (isMethod (modelOf b)) list ≡ true
+    filling-methods =
+        every-from (isMethod (modelOf b)) list (λ m h. lt-ltb m (modelOf b .methods) (each-method (filling-candidates .methods) m h .bound))
+
     -- the signature has a class for each of the arguments, and no more than the layout has places
     pub filling-arguments : length (modelOf b .sigArgs s) ≡ length chosen
     filling-arguments = wellformed-of o .sig-places s (g .signature) ∙ ap (modelOf b .arity) (sym (g .ofSignature)) ∙ sym (g .arity)
@@ -132,9 +133,24 @@ module _ {b : List ℕ} {t : Bundle} (o : Opened b t) {s f : ℕ} where
           methods = rw e (g .methods);
         }
 
+    -- the same places without the methods that another dominates
+    pub filling-thinned : {less : List ℕ} → less ≡ keep (undominated (modelOf b) place list) list → Filling (modelOf b) s f place chosen less
+    filling-thinned e =
+        let w = wellformed-of o in
+        record {
+          signature = g .signature;
+          ofSignature = g .ofSignature;
+          arity = g .arity;
+          within = g .within;
+          classes = g .classes;
+          methods =
+              enough-enough (modelOf b) w f (left-methods (modelOf b) f (take place chosen)) place (g .methods)
+              (enough-written (modelOf b) w f (each-method (filling-candidates .methods)) place refl e);
+        }
+
     -- a place more, with the methods left narrowed
-    pub filling-more : (k : ℕ) {next : List ℕ} → place < length chosen → k < t .classes
-        → Enough (modelOf b) (place + 1) (keep (admits (modelOf b) place k) list) next → Filling (modelOf b) s f (place + 1) (set chosen place k) next
+    pub filling-more : (k : ℕ) {next : List ℕ} → place < length chosen → k < t .classes → next ≡ keep (admits (modelOf b) place k) list
+        → Filling (modelOf b) s f (place + 1) (set chosen place k) next
     filling-more k {next} h l e =
         let M = modelOf b in
         let w = wellformed-of o in
@@ -142,6 +158,10 @@ module _ {b : List ℕ} {t : Bundle} (o : Opened b t) {s f : ℕ} where
         let long = length-take-le place chosen (omega arith) in
         let long-enough : (m : ℕ) → m < M .methods → M .function m ≡ f → length (take place chosen) < length (M .specialisers m) =
         λ m d q. omega (arith, w .specialiser-places m d, ap (M .arity) q, g .arity) in
+        let narrowed : keep (admits M place k) (applicableSoFar M f (take place chosen)) ≡ applicableSoFar M f (take (place + 1) (set chosen place k)) =
+        subst (λ (i : ℕ). keep (admits M i k) (applicableSoFar M f (take place chosen)) ≡ applicableSoFar M f (take place chosen ++ (k ∷ []))) long
+        (narrow-place M f (take place chosen) k long-enough)
+        ∙ ap (applicableSoFar M f) (sym (chosen-more chosen place k h)) in
         record {
           signature = g .signature;
           ofSignature = g .ofSignature;
@@ -149,12 +169,8 @@ module _ {b : List ℕ} {t : Bundle} (o : Opened b t) {s f : ℕ} where
           within = omega (arith, length-set chosen place k);
           classes = rw (chosen-more chosen place k h) (present-more M (take place chosen) k (g .classes) (omega arith));
           methods =
-              subst (λ (l : List ℕ). Enough M (place + 1) l next)
-              (subst (λ (i : ℕ). keep (admits M i k) (applicableSoFar M f (take place chosen)) ≡ applicableSoFar M f (take place chosen ++ (k ∷ []))) long
-              (narrow-place M f (take place chosen) k long-enough)
-              ∙ ap (applicableSoFar M f) (sym (chosen-more chosen place k h)))
-              (enough-enough M w f (λ m h. left-methods M f (take place chosen) m (keep-mem (admits M place k) (applicableSoFar M f (take place chosen)) h .0))
-              (place + 1) (enough-narrowed M place k (g .methods)) e);
+              subst (λ (l : List ℕ). Enough M (place + 1) (applicableSoFar M f (take (place + 1) (set chosen place k))) l) (sym e)
+              (subst (λ (l : List ℕ). Enough M (place + 1) l (keep (admits M place k) list)) narrowed (enough-narrowed M place k (g .methods)));
         }
 
   -- with every place filled the tuple is one of arguments, and lookup selects among the methods left

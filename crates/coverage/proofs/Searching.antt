@@ -95,15 +95,14 @@ module _ (M : Model) (s : ℕ) (filled : List ℕ) where
           ∙ ap (λ (p : List ℕ → Bool). Option·map (λ t. k ∷ t) (first p (tuples M rest)))
           (fun-ext (λ t. ap (λ (u : List ℕ). failing (judge M s u)) (sym (append-assoc filled (k ∷ []) t))))
 
-      -- the end of that search is one of the whole
-      module _ (after : List ℕ) (r : SearchEnd) (w : Ends M s (filled ++ (k ∷ [])) rest after r) where
-        pub class-holds : r ≡ Exhausted → remaining M s filled c rest k ≡ remaining M s filled c rest (k + 1)
-        unfolding remaining later
-        class-holds q =
-            class-split
-            ∙ first-append-none (broken M s filled) (map (λ t. k ∷ t) (tuples M rest)) later
-            (class-filled ∙ ap (Option·map (λ t. k ∷ t)) (subst (Ends M s (filled ++ (k ∷ [])) rest after) q w))
+      -- without a broken one there, what is left is after k
+      pub class-covered : brokenCompletion M s (filled ++ (k ∷ [])) rest ≡ none → remaining M s filled c rest k ≡ remaining M s filled c rest (k + 1)
+      unfolding remaining later
+      class-covered q =
+          class-split ∙ first-append-none (broken M s filled) (map (λ t. k ∷ t) (tuples M rest)) later (class-filled ∙ ap (Option·map (λ t. k ∷ t)) q)
 
+      -- a broken one there is the first of the whole
+      module _ (after : List ℕ) (r : SearchEnd) (w : Ends M s (filled ++ (k ∷ [])) rest after r) where
         pub class-breaks : (whole : List ℕ) (j : Judgement) → brokenCompletion M s filled whole ≡ remaining M s filled c rest k → r ≡ Stopped j
             → Ends M s filled whole after (Stopped j)
         class-breaks whole j d q =

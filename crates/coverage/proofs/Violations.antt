@@ -5,11 +5,15 @@ use mathlib.Core.Path.{_≡_, refl, sym, ap, _∙_}
 use mathlib.Core.Bool.{true, false, false≢true}
 use mathlib.Core.List.{List, [], _∷_}
 use mathlib.Core.Option.{Option, none, some, Option·map}
+use Rattle.rules.specs.Bounded.{upto}
 use Rattle.rules.specs.Layout.{padded}
-use Rattle.rules.specs.Model.{Model}
+use Rattle.rules.specs.Model.{Model, Wellformed}
 use Rattle.rules.specs.Coverage.{Judgement, judge, brokenTuple, isSome, brokenSignature}
-use Rattle.rules.proofs.Lists.{none-lowest, some-lowest, lowest-some}
-use Rattle.coverage.specs.Search.{brokenCompletion, Violation, violation, violationIn, violationAt, firstViolation}
+use Rattle.rules.specs.Alike.{implies}
+use Rattle.rules.proofs.Lists.{any-mem, upto-below, none-lowest, some-lowest, lowest-some}
+use Rattle.rules.proofs.Coverage.{none-of}
+use Rattle.rules.proofs.Alike.{implied-covered}
+use Rattle.coverage.specs.Search.{brokenCompletion, implied, Violation, violation, violationIn, violationAt, firstViolation}
 
 -- what a search with no place filled finds is the signature's
 pub tuple-none : (M : Model) (s : ℕ) → brokenCompletion M s [] (M .sigArgs s) ≡ none → none ≡ violationIn M s
@@ -29,6 +33,14 @@ signature-holds M s e = go (brokenTuple M s) e
     go : (t : Option (List ℕ)) → none ≡ Option·map (violation M s) t → isSome t ≡ false
     go none q = refl
     go (some t) q = cc
+
+-- nor is one that an earlier one implies, with none before it broken
+pub signature-implied : (M : Model) → Wellformed M → (s : ℕ) → ((i : ℕ) → i < s → isSome (brokenTuple M i) ≡ false) → implied M s ≡ true
+    → isSome (brokenTuple M s) ≡ false
+unfolding implied isSome
+signature-implied M w s low e =
+    let (r, m, q) = any-mem (λ r. implies M r s) (upto s) e in
+    ap isSome (implied-covered M w r s q (none-of (brokenTuple M r) (low r (upto-below s m))))
 
 pub signature-breaks : (M : Model) (s : ℕ) (v : Violation) → s < M .signatures → ((i : ℕ) → i < s → isSome (brokenTuple M i) ≡ false)
     → some v ≡ violationIn M s → some v ≡ firstViolation M

@@ -5,13 +5,15 @@ use mathlib.Core.Path.{_≡_}
 use mathlib.Core.Bool.{Bool, true, _&&_}
 use mathlib.Core.List.{List, _∷_, _++_}
 use mathlib.Core.Option.{Option, none, some, Option·map}
+use lib.Dec.{ltb}
 use lib.ListN.{length, take, getD}
-use Rattle.rules.specs.Bounded.{first}
+use Rattle.rules.specs.Bounded.{upto, any, first}
 use Rattle.rules.specs.Layout.{padded}
 use Rattle.rules.specs.Model.{Model, present}
 use Rattle.rules.specs.Subclass.{subclass}
 use Rattle.rules.specs.Lookup.{applicableSoFar}
 use Rattle.rules.specs.Coverage.{Judgement, judge, failing, concreteClass, tuples, brokenTuple, brokenSignature}
+use Rattle.rules.specs.Alike.{alikeAt, implies}
 use Rattle.dispatch.specs.Send.{sendValues}
 use Rattle.coverage.specs.declared.search.SearchEnd.{SearchEnd}
 use Rattle.coverage.specs.declared.search.SearchEnd.the-variants.{Exhausted, Stopped}
@@ -27,6 +29,14 @@ candidateClass M c k = concreteClass M k && subclass M k c
 -- method m admits class k at a place: its specialiser there is above it
 abbrev pub admits : Model → ℕ → ℕ → ℕ → Bool
 admits M place k m = subclass M k (getD (M .specialisers m) place 0)
+
+-- m is a method of the bundle
+abbrev pub isMethod : Model → ℕ → Bool
+isMethod M m = ltb m (M .methods)
+
+-- a class that was tried at a place is alike to class k there
+unfoldable pub triedAlike : Model → ℕ → List ℕ → List ℕ → ℕ → Bool
+triedAlike M place ms tried k = any (λ a. alikeAt M place ms a k) tried
 
 -- the first of the tuples under the classes `rest` that complete the filled places to a broken tuple
 unfoldable pub brokenCompletion : Model → ℕ → List ℕ → List ℕ → Option (List ℕ)
@@ -46,6 +56,10 @@ abbrev pub Ends : Model → ℕ → List ℕ → List ℕ → List ℕ → Searc
 Ends M s filled rest after Exhausted = brokenCompletion M s filled rest ≡ none
 Ends M s filled rest after (Stopped j) =
     (t : List ℕ) × (brokenCompletion M s filled rest ≡ some t) × (after ≡ filled ++ t) × (judgementOf j ≡ judge M s after)
+
+-- an earlier signature implies signature s
+unfoldable pub implied : Model → ℕ → Bool
+implied M s = any (λ e. implies M e s) (upto s)
 
 -- a broken tuple of a signature as a send: the function, and as many places as the layout has; and what the rule says of it
 pub record Violation : Type 0 where

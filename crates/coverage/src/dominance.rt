@@ -3,6 +3,7 @@ use dispatch::select::as_specific;
 use dispatch::tuple::specialisers;
 use layout::bundle::Bundle;
 ghost use mathlib.Core.Path.{_≡_};
+ghost use mathlib.Core.Bool.{true};
 ghost use Prim.Native.Nat.{_≤_};
 ghost use lib.Dec.{eqb};
 ghost use lib.ListN.{length};
@@ -10,7 +11,7 @@ ghost use Rattle.rules.specs.Bounded.{keep, matching};
 ghost use Rattle.rules.specs.Model.{modelOf};
 ghost use Rattle.dispatch.specs.Prepared.{Prepared};
 ghost use Rattle.dispatch.specs.Places.{OfArity};
-ghost use Rattle.dispatch.specs.Listed.{Candidates, Written};
+ghost use Rattle.dispatch.specs.Listed.{methodOf, Candidates, Written};
 ghost use Rattle.coverage.specs.Dominance.{dominates, undominated};
 
 // Whether two tuples of as many classes are the same.
@@ -52,7 +53,8 @@ fn dominates(
     as_specific(bytes, b, scratch, n, o, m)
 }
 
-// Whether no other method of the list dominates method m.
+// Whether no other method of the list dominates method m. With every place still to fill none does: no two methods of a function have the same
+// specialisers.
 fn undominated(
     bytes: &[u8],
     b: Bundle,
@@ -66,9 +68,12 @@ fn undominated(
     requires { ⌜ Prepared (now bytes) b (now scratch) ⌝ }
     requires { ⌜ Candidates (modelOf (now bytes)) f n (now list) ⌝ }
     requires { ⌜ place ≤ n ⌝ }
-    requires { ⌜ OfArity (modelOf (now bytes)) n m ⌝ }
+    requires { ⌜ methodOf (modelOf (now bytes)) f m ≡ true ⌝ }
     ensures { λ r. ⌜ r ≡ undominated (modelOf (now (bytes .entry))) place (now (list .entry)) m ⌝ }
 {
+    if place == 0 {
+        return true;
+    }
     let mut i = 0;
     while i < list.len() {
         let o = list[i];

@@ -1,4 +1,5 @@
 // The coverage rule for one tuple of a signature.
+use dispatch::index::index_methods;
 use dispatch::lookup::lookup;
 use dispatch::matrix::under;
 use dispatch::places::each_under;
@@ -85,7 +86,8 @@ pub fn judge(bytes: &[u8], b: Bundle, scratch: &[u8], s: usize, args: &[u8]) -> 
     ensures { λ r. ⌜ judgementOf r ≡ judge (modelOf (now (bytes .entry))) s (now (args .entry)) ⌝ }
 {
     let f = sig_function(bytes, b, s);
-    let found = lookup(bytes, b, scratch, f, args);
+    let index = index_methods(bytes, b);
+    let found = lookup(bytes, b, scratch, &index, f, args);
     judge_found(bytes, b, scratch, s, args, found)
 }
 

@@ -1,6 +1,9 @@
-// The search for a tuple that breaks the coverage rule: tuples are built place by place, and each place filled narrows the methods that can apply, and
-// drops those that another dominates.
+// The search for a tuple that breaks the coverage rule: tuples are built place by place, and each place filled narrows the methods that can apply. What
+// an earlier part of the search has settled is not searched again: a class that no method left tells from a tried one, and a signature that an earlier one
+// implies.
+use crate::alike::tried_alike;
 use crate::dominance::drop_dominated;
+use crate::implied::implied;
 use crate::judge::Judgement;
 use crate::judge::fails;
 use crate::judge::judge_found;
@@ -8,7 +11,6 @@ use dispatch::matrix::under;
 use dispatch::select::select;
 use dispatch::send::Send;
 use layout::bundle::Bundle;
-use layout::bytes::byte_at;
 use layout::field::arity;
 use layout::field::function;
 use layout::field::is_concrete;
@@ -17,7 +19,7 @@ use layout::field::sig_function;
 use layout::field::specialiser;
 ghost use mathlib.Core.Path.{_≡_};
 ghost use mathlib.Core.List.{[]};
-ghost use Prim.Native.Nat.{_+_, _<_, _≤_};
+ghost use Prim.Native.Nat.{_<_, _≤_};
 ghost use lib.ListN.{length, take, drop};
 ghost use Rattle.rules.specs.Bounded.{keep};
 ghost use Rattle.rules.specs.Layout.{places, maxMethods};
@@ -26,7 +28,6 @@ ghost use Rattle.rules.specs.Lookup.{applicableSoFar};
 ghost use Rattle.layout.specs.Opened.{Opened};
 ghost use Rattle.dispatch.specs.Prepared.{Prepared};
 ghost use Rattle.dispatch.specs.Listed.{Candidates, Written};
-ghost use Rattle.coverage.specs.Dominance.{Narrowed};
 ghost use Rattle.coverage.specs.Search.{candidateClass, admits, Filling, Ends, coverageOf, violationIn, firstViolation};
 
 // The search among the tuples that the filled places begin: none breaks the rule, or it stopped at one.
@@ -102,36 +103,6 @@ fn narrow(
     kept
 }
 
-// Writes enough of the methods that admit class k at the place into the next list, and says how many there are. At the last place none is dropped: there
-// the list serves one tuple only, and dropping would cost more than selecting from it.
-fn next_methods(
-    bytes: &[u8],
-    b: Bundle,
-    scratch: &[u8],
-    f: usize,
-    n: usize,
-    place: usize,
-    k: usize,
-    list: &[usize],
-    next: &mut [usize],
-) -> usize
-    requires { ⌜ Prepared (now bytes) b (now scratch) ⌝ }
-    requires { ⌜ Candidates (modelOf (now bytes)) f n (now list) ⌝ }
-    requires { ⌜ n ≤ places ⌝ }
-    requires { ⌜ place < n ⌝ }
-    requires { ⌜ k < b .classes ⌝ }
-    requires { ⌜ length (now list) ≤ maxMethods ⌝ }
-    requires { ⌜ length (now list) ≤ length (now next) ⌝ }
-    ensures { λ r. ⌜ Narrowed (modelOf (now (bytes .entry))) (place + 1) (keep (admits (modelOf (now (bytes .entry))) place k) (now (list .entry))) (now (next .entry)) (now (next .exit)) r ⌝ }
-{
-    if place + 1 == n {
-        return narrow(bytes, b, scratch, f, n, place, k, list, next);
-    }
-    let mut all = blank();
-    let kept = narrow(bytes, b, scratch, f, n, place, k, list, &mut all);
-    drop_dominated(bytes, b, scratch, f, n, place + 1, &all[..kept], next)
-}
-
 // Whether class k is to be tried at a place where the signature has class c: concrete, and under it.
 fn is_candidate(bytes: &[u8], b: Bundle, scratch: &[u8], c: usize, k: usize) -> bool
     requires { ⌜ Prepared (now bytes) b (now scratch) ⌝ }
@@ -167,7 +138,8 @@ fn judge_filled(
     SearchEnd::Exhausted
 }
 
-// The search with the places before `place` filled: the classes of the next one are tried in number order, and the first broken tuple ends it.
+// The search with the places before `place` filled: the classes of the next one are tried in number order, and the first broken tuple ends it. Methods that
+// another dominates are dropped first, so that fewer are narrowed, and fewer tell classes apart. A class counts as tried once its search found nothing.
 fn search(
     bytes: &[u8],
     b: Bundle,
@@ -189,8 +161,14 @@ fn search(
         return judge_filled(bytes, b, scratch, s, f, chosen, list);
     }
     let c = sig_arg(bytes, b, s, place);
+    let mut methods = blank();
+    let left = drop_dominated(bytes, b, scratch, f, n, place, list, &mut methods);
+    let enough = &methods[..left];
     let classes = b.classes;
     let mut next = blank();
+    let mut tried = [0usize; Bundle::CLASSES];
+    let mut counts = [0usize; Bundle::CLASSES];
+    let mut tries = 0;
     let mut k = 0;
     while k < classes {
         let class = k;
@@ -198,10 +176,29 @@ fn search(
         if !is_candidate(bytes, b, scratch, c, class) {
             continue;
         }
+        let kept = narrow(bytes, b, scratch, f, n, place, class, enough, &mut next);
+        if tried_alike(
+            bytes,
+            b,
+            scratch,
+            place,
+            enough,
+            &tried,
+            &counts,
+            tries,
+            class,
+            kept,
+        ) {
+            continue;
+        }
+        tried[tries] = class;
+        counts[tries] = kept;
         chosen[place] = class as u8;
-        let kept = next_methods(bytes, b, scratch, f, n, place, class, list, &mut next);
         match search(bytes, b, scratch, s, f, place + 1, chosen, &next[..kept]) {
-            SearchEnd::Exhausted => continue,
+            SearchEnd::Exhausted => {
+                tries += 1;
+                continue;
+            }
             SearchEnd::Stopped(j) => return SearchEnd::Stopped(j),
         }
     }
@@ -235,6 +232,9 @@ pub fn broken_signature(bytes: &[u8], b: Bundle, scratch: &[u8]) -> Coverage
     while s < signatures {
         let signature = s;
         s += 1;
+        if implied(bytes, b, scratch, signature) {
+            continue;
+        }
         match broken_tuple(bytes, b, scratch, signature) {
             Coverage::Covered => continue,
             Coverage::Broken(at, send, j) => return Coverage::Broken(at, send, j),

@@ -1,10 +1,12 @@
 -- Lists that a loop makes or counts by keeping what passes a test.
 -- Assumes nothing.
-use Prim.Native.Nat.{ℕ, suc, _+_, _≤_, _<_}
+use Prim.Native.Nat.{ℕ, zero, suc, _+_, _≤_, _<_}
+use native.Mathlib.Nat.{eq-or-lt-of-le}
 use native.Mathlib.Numerals.{add-one}
 use native.Mathlib.Omega.{arith}
 use mathlib.Core.Path.{_≡_, refl, sym, ap, subst, _∙_}
 use mathlib.Core.Bool.{Bool, true, false}
+use mathlib.Core.Logic.{_⊎_, inl, inr}
 use mathlib.Core.List.{List, [], _∷_, _++_}
 use lib.ListN.{length, getD, take, drop, set, length-append, length-set, List·getD-eq-default}
 use lib.Seq.{take-suc-set, take-all, split-at, getD-at}
@@ -55,6 +57,18 @@ module _ (p : ℕ → Bool) (n : ℕ) (old : List ℕ) {list : List ℕ} {i kept
 
   pub upto-all : n ≤ length old → n ≤ i → Written (keep p (upto n)) old list kept
   upto-all r h = keeping-all p (upto n) old k (omega (arith, length-upto n)) (omega (arith, length-upto n))
+
+-- numbers that do not pass are passed over
+pub upto-skip : (p : ℕ → Bool) (n : ℕ) (old : List ℕ) {list : List ℕ} {i kept : ℕ} → Keeping p (upto n) old list i kept
+    → (j : ℕ) → i ≤ j → j ≤ n → ((m : ℕ) → i ≤ m → m < j → p m ≡ false) → Keeping p (upto n) old list j kept
+upto-skip p n old {list} {i} {kept} k zero l h none = let e : i ≡ 0 = omega arith in subst (λ (m : ℕ). Keeping p (upto n) old list m kept) e k
+upto-skip p n old {list} {i} {kept} k (suc j) l h none =
+    go (eq-or-lt-of-le l) (λ r. upto-skip p n old k j r (omega arith) (λ m q t. none m q (omega arith)))
+  where
+    go : (i ≡ suc j) ⊎ (i < suc j) → (i ≤ j → Keeping p (upto n) old list j kept) → Keeping p (upto n) old list (suc j) kept
+    go (inl e) rest = subst (λ (m : ℕ). Keeping p (upto n) old list m kept) e k
+    go (inr r) rest =
+        subst (λ (m : ℕ). Keeping p (upto n) old list m kept) (add-one j) (upto-miss p n old (rest (omega arith)) (omega arith) (none j (omega arith) (omega arith)))
 
 module _ (p : ℕ → Bool) (xs : List ℕ) where
   -- what passes stands, among what is kept, behind what is kept of those before it

@@ -2,4 +2,5 @@ pub mod Entry
 pub mod Asked
 pub mod Listed
 pub mod Kept
+pub mod Indexed
 pub mod Tuples

@@ -10,25 +10,32 @@ use lib.ListN.{length, getD}
 use borrow.Author.Tests.{ltb-true, lt-ltb, eqb-true, eq-eqb}
 use Rattle.rules.specs.Model.{Model}
 use Rattle.rules.specs.Lookup.{applicable, missing, select}
-use Rattle.rules.proofs.Lists.{and-left, and-right, and-both, every-mem, every-from, getD-mem}
+use Rattle.rules.proofs.Lists.{and-left, and-right, and-both, every-mem, every-from, every-place}
 use Rattle.rules.proofs.Lookup.{applicable-candidate}
 use Rattle.rules.proofs.Selection.{MethodOf}
 use Rattle.dispatch.specs.Places.{OfArity}
 use Rattle.dispatch.specs.Listed.{methodOf, Listed, listed, Candidates}
 
-pub each-method : {M : Model} {f : ℕ} {ms : List ℕ} → Listed M f ms → (n : ℕ) → List·Memᴰ n ms → MethodOf M f n
+pub method-of : {M : Model} {f m : ℕ} → methodOf M f m ≡ true → MethodOf M f m
 unfolding methodOf
-each-method {M} {f} {ms} (listed e) n h =
-    let t = every-mem (methodOf M f) ms e h in
+method-of {M} {f} {m} t =
     record {
-      bound = ltb-true n (M .methods) (and-left (ltb n (M .methods)) (eqb (M .function n) f) t);
-      ofFunction = eqb-true (M .function n) f (and-right (ltb n (M .methods)) (eqb (M .function n) f) t);
+      bound = ltb-true m (M .methods) (and-left (ltb m (M .methods)) (eqb (M .function m) f) t);
+      ofFunction = eqb-true (M .function m) f (and-right (ltb m (M .methods)) (eqb (M .function m) f) t);
     }
 
+pub each-method : {M : Model} {f : ℕ} {ms : List ℕ} → Listed M f ms → (n : ℕ) → List·Memᴰ n ms → MethodOf M f n
+each-method {M} {f} {ms} (listed e) n h = method-of (every-mem (methodOf M f) ms e h)
+
+pub method-at : {M : Model} {f : ℕ} {ms : List ℕ} → Listed M f ms → (i : ℕ) → i < length ms → methodOf M f (getD ms i 0) ≡ true
+method-at {M} {f} {ms} (listed e) i l = every-place (methodOf M f) ms 0 e i l
+
+-- a method to choose from has as many arguments as its function
+pub candidate-of : {M : Model} {f n m : ℕ} {ms : List ℕ} → Candidates M f n ms → MethodOf M f m → OfArity M n m
+candidate-of {M} c m = record { bound = m .bound; arity = c .arity ∙ sym (ap (M .arity) (m .ofFunction)) }
+
 pub candidate-at : {M : Model} {f n : ℕ} {ms : List ℕ} → Candidates M f n ms → (i : ℕ) → i < length ms → OfArity M n (getD ms i 0)
-candidate-at {M} {f} {n} {ms} c i l =
-    let m = each-method (c .methods) (getD ms i 0) (getD-mem ms i 0 l) in
-    record { bound = m .bound; arity = c .arity ∙ sym (ap (M .arity) (m .ofFunction)) }
+candidate-at c i l = candidate-of c (method-of (method-at (c .methods) i l))
 
 -- the applicable methods of a function are methods of it
 pub applicable-listed : (M : Model) (f : ℕ) (args : List ℕ) → Listed M f (applicable M f args)

@@ -3,4 +3,5 @@ pub mod Prepared
 pub mod Places
 pub mod Listed
 pub mod Found
+pub mod Index
 pub mod Send

@@ -8,11 +8,6 @@ use lib.Dec.{ltb, eqb}
 use lib.ListN.{length, take}
 use Rattle.rules.specs.Bounded.{every}
 use Rattle.rules.specs.Model.{Model}
-use Rattle.rules.specs.Lookup.{applies}
-
--- m is an applicable method of function f
-abbrev pub suited : Model → ℕ → List ℕ → ℕ → Bool
-suited M f args m = eqb (M .function m) f && applies M args m
 
 -- m is a method of function f
 unfoldable pub methodOf : Model → ℕ → ℕ → Bool

@@ -1,5 +1,7 @@
-// Dispatch: the subclass matrix in the scratch, tuples of classes compared by it, the methods that apply to a send, and the one that lookup finds.
+// Dispatch: the subclass matrix in the scratch, tuples of classes compared by it, the index of the methods, those that apply to a send, and the one that
+// lookup finds.
 mod applicable;
+pub mod index;
 pub mod lookup;
 pub mod matrix;
 pub mod places;

@@ -8,15 +8,24 @@ ghost use Rattle.rules.specs.Model.{modelOf};
 ghost use Rattle.rules.specs.Lookup.{lookup};
 ghost use Rattle.dispatch.specs.Prepared.{Prepared};
 ghost use Rattle.dispatch.specs.Places.{Arguments};
+ghost use Rattle.dispatch.specs.Index.{Indexed};
 ghost use Rattle.dispatch.specs.Found.{foundOf};
 
 // What a send of function f finds for the argument classes at its places.
-pub fn lookup(bytes: &[u8], b: Bundle, scratch: &[u8], f: usize, args: &[u8]) -> Found
+pub fn lookup(
+    bytes: &[u8],
+    b: Bundle,
+    scratch: &[u8],
+    index: &[usize],
+    f: usize,
+    args: &[u8],
+) -> Found
     requires { ⌜ Prepared (now bytes) b (now scratch) ⌝ }
+    requires { ⌜ Indexed (modelOf (now bytes)) (now index) ⌝ }
     requires { ⌜ Arguments (modelOf (now bytes)) f (now args) ⌝ }
     ensures { λ r. ⌜ foundOf r ≡ lookup (modelOf (now (bytes .entry))) f (now (args .entry)) ⌝ }
 {
     let mut list = [0usize; Bundle::METHODS];
-    let count = applicable(bytes, b, scratch, f, args, &mut list);
+    let count = applicable(bytes, b, scratch, index, f, args, &mut list);
     select(bytes, b, scratch, f, args.len(), &list[..count])
 }

@@ -14,6 +14,7 @@ ghost use Rattle.rules.specs.Model.{modelOf};
 ghost use Rattle.rules.specs.Lookup.{found};
 ghost use Rattle.rules.specs.Machine.{targetFound, callTarget, call};
 ghost use Rattle.dispatch.specs.Prepared.{Prepared};
+ghost use Rattle.dispatch.specs.Index.{Indexed};
 ghost use Rattle.dispatch.specs.Places.{Arguments};
 ghost use Rattle.machine.specs.Held.{callersOf, Waiting};
 ghost use Rattle.machine.specs.Endings.{StepsTo};
@@ -55,6 +56,7 @@ pub(crate) fn call(
     bytes: &[u8],
     b: Bundle,
     scratch: &[u8],
+    index: &[usize],
     frames: &mut [usize],
     values: &mut [u8],
     f: usize,
@@ -62,11 +64,12 @@ pub(crate) fn call(
     depth: usize,
 ) -> Stepped
     requires { ⌜ Prepared (now bytes) b (now scratch) ⌝ }
+    requires { ⌜ Indexed (modelOf (now bytes)) (now index) ⌝ }
     requires { ⌜ Arguments (modelOf (now bytes)) f (now args) ⌝ }
     requires { ⌜ Waiting (modelOf (now bytes)) (now frames) (now values) depth ⌝ }
     ensures { λ r. ⌜ (let M = modelOf (now (bytes .entry)) in StepsTo M (now (frames .exit)) (now (values .exit)) r (call M f (now (args .entry)) (callersOf M (now (frames .entry)) (now (values .entry)) depth))) ⌝ }
 {
-    let found = lookup(bytes, b, scratch, f, args);
+    let found = lookup(bytes, b, scratch, index, f, args);
     match found {
         Found::Missing => Stepped::Failed(Ending::Missing(Send::of(f, args))),
         Found::Ambiguous(m, n) => Stepped::Failed(Ending::Ambiguous(Send::of(f, args), m, n)),

@@ -4,6 +4,7 @@ use crate::call::call;
 use crate::ending::Ending;
 use crate::ending::Stepped;
 use crate::step::step;
+use dispatch::index::index_methods;
 use frames::frame::FRAME_BYTES;
 use frames::frame::FRAME_NUMBERS;
 use layout::bundle::Bundle;
@@ -13,6 +14,7 @@ ghost use lib.ListN.{length};
 ghost use Rattle.rules.specs.Model.{modelOf};
 ghost use Rattle.rules.specs.Machine.{maxFrames, runFrom, run};
 ghost use Rattle.dispatch.specs.Prepared.{Prepared};
+ghost use Rattle.dispatch.specs.Index.{Indexed};
 ghost use Rattle.dispatch.specs.Places.{Arguments};
 ghost use Rattle.frames.specs.Arrays.{frameNumbers, frameBytes};
 ghost use Rattle.machine.specs.Held.{resumed, Going};
@@ -29,12 +31,14 @@ fn run_from(
     bytes: &[u8],
     b: Bundle,
     scratch: &[u8],
+    index: &[usize],
     frames: &mut [usize],
     values: &mut [u8],
     top: usize,
     count: u32,
 ) -> Outcome
     requires { ⌜ Prepared (now bytes) b (now scratch) ⌝ }
+    requires { ⌜ Indexed (modelOf (now bytes)) (now index) ⌝ }
     requires { ⌜ Going (modelOf (now bytes)) (now frames) (now values) top ⌝ }
     ensures { λ r. ⌜ (let M = modelOf (now (bytes .entry)) in outcomeOf r ≡ (runFrom M count 0 (resumed M (now (frames .entry)) (now (values .entry)) top)) .outcome) ⌝ }
 {
@@ -45,7 +49,7 @@ fn run_from(
             let ending = Ending::Spent;
             return Outcome { ending, steps };
         }
-        match step(bytes, b, scratch, frames, values, k) {
+        match step(bytes, b, scratch, index, frames, values, k) {
             Stepped::Goes(next) => {
                 k = next;
                 steps += 1;
@@ -82,10 +86,30 @@ pub fn run(bytes: &[u8], b: Bundle, scratch: &[u8], f: usize, args: &[u8], count
     requires { ⌜ Arguments (modelOf (now bytes)) f (now args) ⌝ }
     ensures { λ r. ⌜ (let M = modelOf (now (bytes .entry)) in outcomeOf r ≡ (run M f (now (args .entry)) count) .outcome) ⌝ }
 {
+    let index = index_methods(bytes, b);
     let mut frames = no_frames();
     let mut values = no_values();
-    match call(bytes, b, scratch, &mut frames, &mut values, f, args, 0) {
-        Stepped::Goes(top) => run_from(bytes, b, scratch, &mut frames, &mut values, top, count),
+    match call(
+        bytes,
+        b,
+        scratch,
+        &index,
+        &mut frames,
+        &mut values,
+        f,
+        args,
+        0,
+    ) {
+        Stepped::Goes(top) => run_from(
+            bytes,
+            b,
+            scratch,
+            &index,
+            &mut frames,
+            &mut values,
+            top,
+            count,
+        ),
         Stepped::Ends(ending) => Outcome { ending, steps: 0 },
         Stepped::Failed(ending) => Outcome { ending, steps: 0 },
     }

@@ -21,6 +21,7 @@ ghost use Rattle.rules.specs.Model.{modelOf, arg, new, send};
 ghost use Rattle.rules.specs.Machine.{made, resume, after};
 ghost use Rattle.layout.specs.Opened.{Opened};
 ghost use Rattle.dispatch.specs.Prepared.{Prepared};
+ghost use Rattle.dispatch.specs.Index.{Indexed};
 ghost use Rattle.frames.specs.Arrays.{methodAt};
 ghost use Rattle.machine.specs.Held.{frameOf, callersOf, split, nextOf, turnAt, Going};
 ghost use Rattle.machine.specs.Endings.{StepsTo};
@@ -87,12 +88,14 @@ fn send(
     bytes: &[u8],
     b: Bundle,
     scratch: &[u8],
+    index: &[usize],
     frames: &mut [usize],
     values: &mut [u8],
     top: usize,
     f: usize,
 ) -> Stepped
     requires { ⌜ Prepared (now bytes) b (now scratch) ⌝ }
+    requires { ⌜ Indexed (modelOf (now bytes)) (now index) ⌝ }
     requires { ⌜ Going (modelOf (now bytes)) (now frames) (now values) top ⌝ }
     requires { ⌜ f < b .functions ⌝ }
     ensures { λ r. ⌜ (let M = modelOf (now (bytes .entry)) in StepsTo M (now (frames .exit)) (now (values .exit)) r (turnAt M (now (frames .entry)) (now (values .entry)) top (send f))) ⌝ }
@@ -103,7 +106,17 @@ fn send(
     }
     let args = pop(frames, values, top, n);
     pass(frames, top);
-    call(bytes, b, scratch, frames, values, f, &args[..n], top + 1)
+    call(
+        bytes,
+        b,
+        scratch,
+        index,
+        frames,
+        values,
+        f,
+        &args[..n],
+        top + 1,
+    )
 }
 
 // The next instruction of the frame on top, with the ends of bodies that follow it.
@@ -111,11 +124,13 @@ pub(crate) fn step(
     bytes: &[u8],
     b: Bundle,
     scratch: &[u8],
+    index: &[usize],
     frames: &mut [usize],
     values: &mut [u8],
     top: usize,
 ) -> Stepped
     requires { ⌜ Prepared (now bytes) b (now scratch) ⌝ }
+    requires { ⌜ Indexed (modelOf (now bytes)) (now index) ⌝ }
     requires { ⌜ Going (modelOf (now bytes)) (now frames) (now values) top ⌝ }
     ensures { λ r. ⌜ (let M = modelOf (now (bytes .entry)) in StepsTo M (now (frames .exit)) (now (values .exit)) r (turnAt M (now (frames .entry)) (now (values .entry)) top (nextOf M (now (frames .entry)) top))) ⌝ }
 {
@@ -125,6 +140,6 @@ pub(crate) fn step(
     match i {
         Instruction::Arg(place) => arg(bytes, b, frames, values, top, place),
         Instruction::New(c) => new(bytes, b, frames, values, top, c),
-        Instruction::Send(f) => send(bytes, b, scratch, frames, values, top, f),
+        Instruction::Send(f) => send(bytes, b, scratch, index, frames, values, top, f),
     }
 }

@@ -11,19 +11,19 @@ use Rattle.calls.proofs.lookup.lookup_in.Statement.{statement}
 use Rattle.calls.proofs.lookup.lookup_in.Tie as tie
 
 array-share-prefix-classes : tie.Need-array-share-prefix-classes
-array-share-prefix-classes c = let e = c .before in e .before .before .classes-of .ensures .1 (not-false _ (e .if1 .left)) .within
+array-share-prefix-classes c = let e = c .before .before .before in e .before .before .classes-of .ensures .1 (not-false _ (e .if1 .left)) .within
 
 lookup-requires : tie.Need-lookup-requires
 lookup-requires c κs =
-    let e = c .before .before in
+    let e = c .before .before .before .before in
     let r = e .before .before in
-    (r .before .before .before .pre, r .classes-of .ensures .1 (not-false _ (e .if1 .left)) .arguments)
+    (r .before .before .before .pre, (c .before .before .index-methods .ensures, r .classes-of .ensures .1 (not-false _ (e .if1 .left)) .arguments))
 
 returns-2 : tie.Need-returns-2
 unfolding foundOf foundAnswer
 returns-2 c =
     let l = c .before .before .before in
-    let e = l .before .before .before in
+    let e = l .before .before .before .before .before in
     let r = e .before .before in
     let sent = not-false _ (e .if1 .left) in
     lookup-found _ _ _ (sym (r .classes-of .ensures .0) ∙ sent) (r .classes-of .ensures .1 sent) (sym (ap foundOf (c .before .m .given .1)) ∙ l .lookup .ensures)
@@ -32,7 +32,7 @@ returns-3 : tie.Need-returns-3
 unfolding foundOf foundAnswer
 returns-3 c =
     let l = c .before .before in
-    let e = l .before .before .before in
+    let e = l .before .before .before .before .before in
     let r = e .before .before in
     let sent = not-false _ (e .if1 .left) in
     lookup-found _ _ _ (sym (r .classes-of .ensures .0) ∙ sent) (r .classes-of .ensures .1 sent) (sym (ap foundOf (c .enum-told .given .1)) ∙ l .lookup .ensures)
@@ -41,7 +41,7 @@ returns-4 : tie.Need-returns-4
 unfolding foundOf foundAnswer
 returns-4 c =
     let l = c .before .before .before in
-    let e = l .before .before .before in
+    let e = l .before .before .before .before .before in
     let r = e .before .before in
     let sent = not-false _ (e .if1 .left) in
     lookup-found _ _ _ (sym (r .classes-of .ensures .0) ∙ sent) (r .classes-of .ensures .1 sent) (sym (ap foundOf (c .before .m2 .given .1)) ∙ l .lookup .ensures)
@@ -52,6 +52,8 @@ lookup-in-spec =
     (tie.spec
     (λ c κs. search needs)
     (λ c. lookup-absent _ _ _ (sym (c .before .before .classes-of .ensures .0) ∙ not-true _ (c .if1 .taken)))
+    (λ c κs. search needs)
+    (λ c. search needs)
     array-share-prefix-classes
     (λ c. sym (length-take-le _ _ (array-share-prefix-classes (c .before))))
     lookup-requires

@@ -9,8 +9,8 @@ use borrow.Author.Tests.{not-true, not-false}
 use Rattle.rules.specs.Model.{modelOf}
 use Rattle.rules.specs.Lookup.{asSpecific}
 use Rattle.dispatch.proofs.Asked.{specialisers-long}
-use Rattle.coverage.specs.Dominance.{alike, dominates}
-use Rattle.coverage.proofs.Dominating.{rest-length, alike-rest}
+use Rattle.coverage.specs.Dominance.{sameFrom, dominates}
+use Rattle.coverage.proofs.Dominating.{rest-length, same-rest}
 use Rattle.coverage.proofs.dominance.dominates.Statement.{statement}
 use Rattle.coverage.proofs.dominance.dominates.Tie as tie
 
@@ -31,9 +31,9 @@ same-requires c κs =
     let l = long u in
     rest-length (a .place) (a .n) (u .before .specialisers .result .now) (l .0) ∙ sym (rest-length (a .place) (a .n) (u .specialisers2 .result .now) (l .1))
 
--- whether the methods are alike
-met : (c : tie.After-same) → let a = c .before .before .before .before .before .before .before .args in alike (modelOf (a .bytes .now)) (a .place) (a .o) (a .m) ≡ c .same .result
-met c = let u = c .before .before .before in alike-rest _ _ _ _ (u .before .specialisers .ensures) (u .specialisers2 .ensures) (c .same .ensures)
+-- whether the methods have the same specialisers from the place on
+met : (c : tie.After-same) → let a = c .before .before .before .before .before .before .before .args in sameFrom (modelOf (a .bytes .now)) (a .place) (a .o) (a .m) ≡ c .same .result
+met c = let u = c .before .before .before in same-rest _ _ _ _ (u .before .specialisers .ensures) (u .specialisers2 .ensures) (c .same .ensures)
 
 returns : tie.Need-returns
 unfolding dominates

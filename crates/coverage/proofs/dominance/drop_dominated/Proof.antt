@@ -7,7 +7,7 @@ use mathlib.Core.Path.{sym, _∙_}
 use lib.ListN.{length}
 use borrow.Author.Tests.{not-true, not-false}
 use Rattle.rules.specs.Model.{modelOf}
-use Rattle.dispatch.proofs.Listed.{candidate-at}
+use Rattle.dispatch.proofs.Listed.{method-at}
 use Rattle.dispatch.proofs.Kept.{Keeping, keeping-none, keeping-miss, keeping-hit, keeping-all}
 use Rattle.coverage.specs.Dominance.{undominated}
 use Rattle.coverage.proofs.dominance.drop_dominated.Statement.{statement}
@@ -23,7 +23,7 @@ undominated-requires : tie.Need-undominated-requires Inv-loop μ-loop
 undominated-requires c κs =
     let s = c .before in
     let p = s .before .before .before .before .before .before .pre in
-    (p .0, (p .1 .0, (p .1 .1 .0, candidate-at (p .1 .0) (s .before .loop .i) (s .loop-test .taken))))
+    (p .0, (p .1 .0, (p .1 .1 .0, method-at (p .1 .0 .methods) (s .before .loop .i) (s .loop-test .taken))))
 
 loop-again : tie.Need-loop-again Inv-loop μ-loop
 loop-again c =

@@ -1,9 +1,9 @@
 -- `coverage::search::search` meets its contract. Each call of itself has one more place filled. The loop's invariant: what the whole search finds is
--- what the search among the classes from k on finds, and the places filled before are as they were.
+-- what the search among the classes from k on finds, the tried classes are in no broken tuple, and the places filled before are as they were.
 -- Assumes nothing.
 use Prim.Native.Nat.{ℕ, _+_, _-_, _≤_, _<_}
 use native.Mathlib.Omega.{arith}
-use mathlib.Core.Path.{_≡_, refl, sym, ap, _∙_}
+use mathlib.Core.Path.{_≡_, refl, sym, ap, subst, _∙_}
 use mathlib.Core.List.{List, [], _∷_, _++_}
 use lib.ListN.{length, getD, take, drop, set, length-set}
 use lib.Seq.{take-length, length-take-le}
@@ -11,19 +11,22 @@ use borrow.Author.Needs.{needs}
 use borrow.Author.Tests.{not-true, not-false}
 use borrow.Fn.Kinds.{In}
 use borrow.Fn.PlainCycle.{Measures, is, falls, and}
-use Rattle.rules.specs.Layout.{maxMethods}
-use Rattle.rules.specs.Model.{modelOf}
+use Rattle.rules.specs.Layout.{places, maxClasses, maxMethods}
+use Rattle.rules.specs.Model.{Model, modelOf}
 use Rattle.layout.proofs.Opened.{placed-of, counts-of}
-use Rattle.coverage.specs.Search.{candidateClass, brokenCompletion, Ends}
-use Rattle.coverage.proofs.Narrowing.{chosen-more, filling-candidates, filling-arguments, filling-places, filling-few, filling-kept, filling-more}
-use Rattle.coverage.proofs.Searching.{remaining, search-opens, search-ends, no-place, places-kept, class-skipped, class-holds, class-breaks}
+use Rattle.coverage.specs.Search.{candidateClass, brokenCompletion, Filling, Ends}
+use Rattle.coverage.proofs.Narrowing.{chosen-more, filling-candidates, filling-methods, filling-arguments, filling-places, filling-few, filling-kept, filling-thinned, filling-more}
+use Rattle.coverage.proofs.Searching.{remaining, search-opens, search-ends, no-place, places-kept, class-skipped, class-covered, class-breaks}
+use Rattle.coverage.proofs.Trying.{Tried, tried-none, tried-more, alike-covered}
 use Rattle.coverage.proofs.search.search.Reads as search′
 use Rattle.coverage.proofs.search.search.Kinds as search-kinds
 use Rattle.coverage.proofs.search.+search.Lts-search as lts
+use Rattle.coverage.proofs.alike.tried_alike.Reads as tried-alike-reads
+use Rattle.coverage.proofs.dominance.drop_dominated.Reads as drop-dominated-reads
 use Rattle.coverage.proofs.search.blank.Reads as blank-reads
 use Rattle.coverage.proofs.search.is_candidate.Reads as is-candidate-reads
 use Rattle.coverage.proofs.search.judge_filled.Reads as judge-filled-reads
-use Rattle.coverage.proofs.search.next_methods.Reads as next-methods-reads
+use Rattle.coverage.proofs.search.narrow.Reads as narrow-reads
 use Rattle.layout.proofs.field.sig_arg.Reads as sig-arg-reads
 use Rattle.coverage.proofs.search.+search.{statement}
 use Rattle.coverage.proofs.search.+search.Tie.{close}
@@ -51,27 +54,38 @@ claims t = (
   sig-arg-reads.Learnt,
   blank-reads.Asked,
   blank-reads.Learnt,
+  drop-dominated-reads.Asked,
+  drop-dominated-reads.Learnt,
   is-candidate-reads.Asked,
   is-candidate-reads.Learnt,
-  next-methods-reads.Asked,
-  next-methods-reads.Learnt,
+  narrow-reads.Asked,
+  narrow-reads.Learnt,
+  tried-alike-reads.Asked,
+  tried-alike-reads.Learnt,
   search-below t,
   search′.Post,
 )
 
+-- the loop with the classes below k behind it
+record Behind (M : Model) (s place : ℕ) (chosen₀ chosen next tried : List ℕ) (tries k : ℕ) : Type 0 where
+  within : k ≤ M .classes
+  few : tries ≤ k
+  same : length chosen ≡ length chosen₀
+  kept : take place chosen ≡ take place chosen₀
+  room : length next ≡ maxMethods
+  long : length tried ≡ maxClasses
+  covered : Tried M s (take place chosen₀) (drop (place + 1) (M .sigArgs s)) (take tries tried)
+  left :
+      brokenCompletion M s (take place chosen₀) (drop place (M .sigArgs s))
+      ≡ remaining M s (take place chosen₀) (getD (M .sigArgs s) place 0) (drop (place + 1) (M .sigArgs s)) k
+
 abbrev Inv-loop : lts.InvT-loop
-Inv-loop bytes b scratch s f place chosen₀ list n c classes next₀ k₀ chosen next k =
-    let M = modelOf bytes in
-    let filled = take place chosen₀ in
-    (k ≤ b .classes)
-    × (length chosen ≡ length chosen₀)
-    × (take place chosen ≡ filled)
-    × (length next ≡ maxMethods)
-    × (brokenCompletion M s filled (drop place (M .sigArgs s))
-    ≡ remaining M s filled (getD (M .sigArgs s) place 0) (drop (place + 1) (M .sigArgs s)) k)
+Inv-loop bytes b scratch s f place chosen₀ list n c left enough classes next₀ tried₀ counts₀ tries₀ k₀ chosen next tried counts tries k =
+    Behind (modelOf bytes) s place chosen₀ chosen next tried tries k
 
 abbrev μ-loop : lts.MeasureT-loop
-μ-loop bytes b scratch s f place chosen₀ list n c classes next₀ k₀ chosen next k = b .classes - k
+μ-loop bytes b scratch s f place chosen₀ list n c left enough classes next₀ tried₀ counts₀ tries₀ k₀ chosen next tried counts tries k =
+    b .classes - k
 
 module _ (t : ℕ) where
   judge-filled-requires : lts.Need-judge-filled-requires (claims t) (search-at t) search′.Post Inv-loop μ-loop
@@ -101,37 +115,58 @@ module _ (t : ℕ) where
       let counts = counts-of o in
       (o, (omega (arith, p .1 .signature), omega (arith, place-below c, filling-places o (p .1))))
 
+  drop-dominated-requires : lts.Need-drop-dominated-requires (claims t) (search-at t) search′.Post Inv-loop μ-loop
+  drop-dominated-requires c κs =
+      let p = c .before .before .before .before .before .before .before .before .pre .1 in
+      let o = p .0 .opened in
+      (p .0, (filling-candidates o (p .1), (omega (arith, p .1 .within), omega (arith, filling-few o (p .1), c .before .blank .ensures))))
+
   loop-holds : lts.Need-loop-holds (claims t) (search-at t) search′.Post Inv-loop μ-loop
   loop-holds c =
-      let e = c .before .before in
+      let e = c .before .before .before .before .before .before .before in
       let p = e .before .before .before .before .before .pre .1 in
-      (omega arith, refl, refl, c .blank .ensures, search-opens _ _ _ _ (omega (arith, place-below e, filling-arguments (p .0 .opened) (p .1))))
+      record {
+        within = omega arith;
+        few = omega arith;
+        same = refl;
+        kept = refl;
+        room = c .blank2 .ensures;
+        long = refl;
+        covered = tried-none;
+        left = search-opens _ _ _ _ (omega (arith, place-below e, filling-arguments (p .0 .opened) (p .1)));
+      }
 
-  -- the signature's class at the place and the one tried are the bundle's, and fit a byte
+  -- the signature's class at the place and the one tried are the bundle's, and fit a byte; the place is one of the layout's
   bounds : (c : lts.In-loop (claims t) (search-at t) search′.Post Inv-loop μ-loop)
       → let l = c .before in
-      let b = l .before .before .before .before .before .before .before .before .args .b in
-      (l .before .before .sig-arg .result < b .classes) × (l .loop .k < b .classes) × (b .classes ≤ 128)
+      let a = l .before .before .before .before .before .before .before .before .before .before .before .before .before .args in
+      (l .before .before .before .before .before .before .before .sig-arg .result < a .b .classes) × (l .loop .k < a .b .classes) × (a .b .classes ≤ maxClasses) × (a .place < places)
   bounds c =
-      let u = c .before .before .before in
-      (u .sig-arg .ensures .1, omega arith, placed-of (u .before .before .before .before .before .before .pre .1 .0 .opened) .classes-limit)
+      let l = c .before in
+      let e = l .before .before .before .before .before .before .before .before in
+      let p = e .before .before .before .before .before .pre .1 in (
+        l .before .before .before .before .before .before .before .sig-arg .ensures .1,
+        omega arith,
+        placed-of (p .0 .opened) .classes-limit,
+        omega (arith, place-below e, filling-places (p .0 .opened) (p .1)),
+      )
 
   is-candidate-requires : lts.Need-is-candidate-requires (claims t) (search-at t) search′.Post Inv-loop μ-loop
   is-candidate-requires c κs =
       let h = bounds c in
-      (c .before .before .before .before .before .before .before .before .before .pre .1 .0, (h .0, h .1))
+      (c .before .before .before .before .before .before .before .before .before .before .before .before .before .before .pre .1 .0, (h .0, h .1))
 
   -- `is_candidate` answers whether class k is one of those to try, of which there are no more than classes
   met : (c : lts.After-is-candidate (claims t) (search-at t) search′.Post Inv-loop μ-loop)
       → let l = c .before .before in
-      let a = l .before .before .before .before .before .before .before .before .args in
+      let a = l .before .before .before .before .before .before .before .before .before .before .before .before .before .args in
       let M = modelOf (a .bytes .now) in
       (c .is-candidate .result ≡ candidateClass M (getD (M .sigArgs (a .s)) (a .place) 0) (l .loop .k)) × (l .loop .k < M .classes)
   met c =
       let l = c .before .before in
-      let s = l .before .before .before .before .before .before .before .before in
+      let s = l .before .before .before .before .before .before .before .before .before .before .before .before .before in
       let counts = counts-of (s .pre .1 .0 .opened) in (
-        c .is-candidate .ensures ∙ ap (λ (x : ℕ). candidateClass (modelOf (s .args .bytes .now)) x (l .loop .k)) (l .before .before .sig-arg .ensures .0),
+        c .is-candidate .ensures ∙ ap (λ (x : ℕ). candidateClass (modelOf (s .args .bytes .now)) x (l .loop .k)) (l .before .before .before .before .before .before .before .sig-arg .ensures .0),
         omega arith,
       )
 
@@ -139,43 +174,88 @@ module _ (t : ℕ) where
   loop-again c =
       let l = c .before .before .before .loop in
       let m = met (c .before) in
-      (omega arith, l .inv .1, l .inv .2, l .inv .3, l .inv .4 ∙ class-skipped _ _ _ _ _ (l .k) (m .1) (sym (m .0) ∙ not-true _ (c .if2 .taken)))
+      record {
+        within = omega (arith, m .1);
+        few = omega arith;
+        same = l .inv .same;
+        kept = l .inv .kept;
+        room = l .inv .room;
+        long = l .inv .long;
+        covered = l .inv .covered;
+        left = l .inv .left ∙ class-skipped _ _ _ _ _ (l .k) (m .1) (sym (m .0) ∙ not-true _ (c .if2 .taken));
+      }
 
-  next-methods-requires : lts.Need-next-methods-requires (claims t) (search-at t) search′.Post Inv-loop μ-loop
-  next-methods-requires c κs =
-      let l = c .before .before .before .before in
-      let p = l .before .before .before .before .before .before .before .before .pre .1 in
-      let o = p .0 .opened in
-      let few = filling-few o (p .1) in (
-        p .0,
-        (
-          filling-candidates o (p .1),
-          (filling-places o (p .1), (place-below (l .before .before .before), (omega (arith, bounds (c .before .before .before)), (few, omega (arith, l .loop .inv .3))))),
-        ),
-      )
+  -- the methods left without those that another dominates are enough
+  thinned : (l : lts.At-loop (claims t) (search-at t) search′.Post Inv-loop μ-loop)
+      → let a = l .before .before .before .before .before .before .before .before .before .before .before .before .before .args in
+      let d = l .before .before .before .before .drop-dominated in
+      Filling (modelOf (a .bytes .now)) (a .s) (a .f) (a .place) (a .chosen .now) (take (d .result) (d .last .1 .1 .1 .1 .1 .1 .1 .0))
+  thinned l = let p = l .before .before .before .before .before .before .before .before .before .before .before .before .before .pre .1 in filling-thinned (p .0 .opened) (p .1) (l .before .before .before .before .drop-dominated .ensures .holds)
+
+  narrow-requires : lts.Need-narrow-requires (claims t) (search-at t) search′.Post Inv-loop μ-loop
+  narrow-requires c κs =
+      let i = c .before .before .before in
+      let l = i .before in
+      let p = l .before .before .before .before .before .before .before .before .before .before .before .before .before .pre .1 .0 in
+      let g = thinned l in
+      let h = bounds i in
+      (p, (filling-candidates (p .opened) g, (h .3, (omega (arith, h), omega (arith, filling-few (p .opened) g, l .loop .inv .room)))))
+
+  tried-alike-requires : lts.Need-tried-alike-requires (claims t) (search-at t) search′.Post Inv-loop μ-loop
+  tried-alike-requires c κs =
+      let i = c .before .before .before .before .before .before .before in
+      let l = i .before in
+      let p = l .before .before .before .before .before .before .before .before .before .before .before .before .before .pre .1 .0 in
+      let h = bounds i in
+      let few : l .loop .tries ≤ maxClasses = omega (arith, h, l .loop .inv .few) in
+      (p, (filling-methods (p .opened) (thinned l), (h .3, (l .loop .inv .long, (few, (l .loop .inv .covered .classes, h .1))))))
+
+  loop-again-2 : lts.Need-loop-again-2 (claims t) (search-at t) search′.Post Inv-loop μ-loop
+  loop-again-2 c =
+      let n = c .before .before .before .before .before in
+      let e = n .before .before in
+      let l = e .before .before .before in
+      let inv = l .loop .inv in
+      let m = met (e .before) in
+      record {
+        within = omega (arith, m .1);
+        few = omega (arith, inv .few);
+        same = inv .same;
+        kept = inv .kept;
+        room = n .narrow .ensures .same ∙ inv .room;
+        long = inv .long;
+        covered = inv .covered;
+        left =
+            inv .left
+            ∙ class-covered _ _ _ _ _ (l .loop .k) (m .1) (sym (m .0) ∙ not-false _ (e .if2 .left))
+            (alike-covered (l .before .before .before .before .before .before .before .before .before .before .before .before .before .pre .1 .0 .opened) (thinned l) (inv .covered) (l .loop .k) (c .before .tried-alike .ensures (c .if3 .taken)));
+      }
+
+  -- there is room for one more tried class
+  tries-below : (c : lts.In-loop (claims t) (search-at t) search′.Post Inv-loop μ-loop) → c .before .loop .tries < maxClasses
+  tries-below c = omega (arith, bounds c, c .before .loop .inv .few)
 
   add-search : lts.Need-add-search (claims t) (search-at t) search′.Post Inv-loop μ-loop
-  add-search c =
-      let e = c .before .before .before .before .before .before .before .before .before in
-      let p = e .before .before .before .before .before .pre .1 in
-      omega (arith, place-below e, filling-places (p .0 .opened) (p .1))
+  add-search c = omega (arith, bounds (c .before .before .before .before .before .before .before .before .before))
 
   search-requires : lts.Need-search-requires (claims t) (search-at t) search′.Post Inv-loop μ-loop
   search-requires c κs =
-      let u = c .before .before .before in
-      let l = u .before .before .before .before .before in
-      let s = l .before .before .before .before .before .before .before .before in
+      let n = c .before .before .before .before .before .before .before in
+      let l = n .before .before .before .before .before in
+      let s = l .before .before .before .before .before .before .before .before .before .before .before .before .before in
       let p = s .pre .1 in
       let o = p .0 .opened in
-      let below = place-below (l .before .before .before) in
-      let chosen = l .loop .chosen in
-      let g = filling-kept o (p .1) chosen (l .loop .inv .1) (l .loop .inv .2) in
-      (simp length-set (omega (arith, s .pre .0, l .loop .inv .1)), (p .0, filling-more o g (l .loop .k) (omega arith) (omega arith) (u .next-methods .ensures .enough)))
+      let below = place-below (l .before .before .before .before .before .before .before .before) in
+      let inv = l .loop .inv in
+      let g = filling-kept o (thinned l) (l .loop .chosen) (inv .same) (inv .kept) in (
+        simp length-set (omega (arith, s .pre .0, inv .same)),
+        (p .0, filling-more o g (l .loop .k) (omega (arith, inv .same)) (omega arith) (n .narrow .ensures .holds)),
+      )
 
   -- a search with class k at the next place keeps the places before it, and ends as one with these and k filled
   ended : (c : lts.After-search (claims t) (search-at t) search′.Post Inv-loop μ-loop)
-      → let l = c .before .before .before .before .before .before .before .before .before in
-      let a = l .before .before .before .before .before .before .before .before .args in
+      → let l = c .before .before .before .before .before .before .before .before .before .before .before .before .before in
+      let a = l .before .before .before .before .before .before .before .before .before .before .before .before .before .args in
       let M = modelOf (a .bytes .now) in
       let after = c .search .last .1 .1 .1 .1 .1 .1 .0 in
       let filled = take (a .place) (a .chosen .now) in
@@ -183,61 +263,68 @@ module _ (t : ℕ) where
       × (take (a .place) after ≡ filled)
       × Ends M (a .s) (filled ++ (l .loop .k ∷ [])) (drop (a .place + 1) (M .sigArgs (a .s))) after (c .search .result)
   ended c =
-      let l = c .before .before .before .before .before .before .before .before .before in
-      let a = l .before .before .before .before .before .before .before .before .args in
+      let l = c .before .before .before .before .before .before .before .before .before .before .before .before .before in
+      let a = l .before .before .before .before .before .before .before .before .before .before .before .before .before .args in
       let chosen = l .loop .chosen in
       let k = l .loop .k in
-      let kept = l .loop .inv .2 in
-      let below = place-below (l .before .before .before) in
+      let inv = l .loop .inv in
+      let below = place-below (l .before .before .before .before .before .before .before .before) in
       let more : take (a .place + 1) (set chosen (a .place) k) ≡ take (a .place) (a .chosen .now) ++ (k ∷ []) =
-      chosen-more chosen (a .place) k (omega (arith, l .loop .inv .1)) ∙ ap (λ (xs : List ℕ). xs ++ (k ∷ [])) kept in
+      chosen-more chosen (a .place) k (omega (arith, inv .same)) ∙ ap (λ (xs : List ℕ). xs ++ (k ∷ [])) (inv .kept) in
       let r = c .search .ensures in (
-        r .0 ∙ length-set chosen (a .place) k ∙ l .loop .inv .1,
-        places-kept (a .place) k chosen _ (r .1 .0) ∙ kept,
+        r .0 ∙ length-set chosen (a .place) k ∙ inv .same,
+        places-kept (a .place) k chosen _ (r .1 .0) ∙ inv .kept,
         rw more at (r .1 .1),
       )
 
-  loop-again-2 : lts.Need-loop-again-2 (claims t) (search-at t) search′.Post Inv-loop μ-loop
-  loop-again-2 c =
+  loop-again-3 : lts.Need-loop-again-3 (claims t) (search-at t) search′.Post Inv-loop μ-loop
+  loop-again-3 c =
       let u = c .before .before .before .before in
-      let n = u .before .before .before .before in
-      let v = n .before .before in
-      let l = v .before .before .before .loop in
-      let m = met (v .before) in
-      let e = ended u in (
-        omega arith,
-        e .0,
-        e .1,
-        n .next-methods .ensures .same ∙ l .inv .3,
-        l .inv .4 ∙ class-holds _ _ _ _ _ (l .k) (m .1) (sym (m .0) ∙ not-false _ (v .if2 .left)) _ (u .search .result) (e .2) (c .enum-told .given .1),
-      )
+      let e = u .before .before .before .before .before .before .before .before .before .before in
+      let l = e .before .before .before in
+      let inv = l .loop .inv in
+      let m = met (e .before) in
+      let q = ended u in
+      let none = subst (Ends _ _ _ _ _) (c .enum-told .given .1) (q .2) in
+      record {
+        within = omega (arith, m .1);
+        few = omega (arith, inv .few);
+        same = q .0;
+        kept = q .1;
+        room = u .before .before .before .before .before .before .before .before .narrow .ensures .same ∙ inv .room;
+        long = simp length-set (inv .long);
+        covered =
+            subst (Tried _ _ _ _) (sym (chosen-more (l .loop .tried) (l .loop .tries) (l .loop .k) (omega (arith, tries-below (e .before .before), inv .long))))
+            (tried-more (inv .covered) (l .loop .k) (m .1) none);
+        left = inv .left ∙ class-covered _ _ _ _ _ (l .loop .k) (m .1) (sym (m .0) ∙ not-false _ (e .if2 .left)) none;
+      }
 
   returns-2 : lts.Need-returns-2 (claims t) (search-at t) search′.Post Inv-loop μ-loop
   returns-2 c =
       let u = c .before .before .before .before .before in
-      let v = u .before .before .before .before .before .before in
-      let l = v .before .before .before .loop in
-      let m = met (v .before) in
-      let e = ended u in (
-        e .0,
+      let e = u .before .before .before .before .before .before .before .before .before .before in
+      let l = e .before .before .before .loop in
+      let m = met (e .before) in
+      let q = ended u in (
+        q .0,
         (
-          e .1,
-          class-breaks _ _ _ _ _ (l .k) (m .1) (sym (m .0) ∙ not-false _ (v .if2 .left)) _ (u .search .result) (e .2) _ _ (l .inv .4) (c .before .j .given .1),
+          q .1,
+          class-breaks _ _ _ _ _ (l .k) (m .1) (sym (m .0) ∙ not-false _ (e .if2 .left)) _ (u .search .result) (q .2) _ _ (l .inv .left) (c .before .j .given .1),
         ),
       )
 
   returns-3 : lts.Need-returns-3 (claims t) (search-at t) search′.Post Inv-loop μ-loop
   returns-3 c =
       let l = c .before .loop in
-      let s = c .before .before .before .before .before .before .before .before .before in
+      let s = c .before .before .before .before .before .before .before .before .before .before .before .before .before .before in
       let a = s .args in
       let M = modelOf (a .bytes .now) in
       let counts = counts-of (s .pre .1 .0 .opened) in
-      let all : l .k ≡ M .classes = omega arith in (
-        l .inv .1,
+      let all : l .k ≡ M .classes = omega (arith, l .inv .within) in (
+        l .inv .same,
         (
-          l .inv .2,
-          l .inv .4
+          l .inv .kept,
+          l .inv .left
               ∙ ap (remaining M (a .s) (take (a .place) (a .chosen .now)) (getD (M .sigArgs (a .s)) (a .place) 0) (drop (a .place + 1) (M .sigArgs (a .s)))) all
               ∙ search-ends _ _ _ _ _,
         ),
@@ -257,24 +344,37 @@ pub +search-spec : {M : Type 1} → statement M
     (returns t)
     (sig-arg-requires t)
     (λ c κs. search needs)
+    (λ c. sym (c .before .blank .ensures))
+    (drop-dominated-requires t)
+    (λ c. c .before .drop-dominated .ensures .room)
+    (λ c. sym (length-take-le _ _ (c .before .before .drop-dominated .ensures .room)))
+    (λ c κs. search needs)
     (loop-holds t)
     (λ c. omega arith)
     (is-candidate-requires t)
     (λ c. omega arith)
     (loop-again t)
-    (λ c. omega (arith, bounds t (c .before .before)))
-    (λ c. omega (arith, place-below t (c .before .before .before .before .before .before)))
-    (λ c. sym (c .before .before .before .before .loop .inv .3))
-    (next-methods-requires t)
-    (add-search t)
-    (λ c. c .before .before .next-methods .ensures .room)
-    (λ c. sym (length-take-le _ _ (c .before .before .before .next-methods .ensures .room)))
-    (search-requires t)
-    (λ c. search needs)
+    (λ c. sym (c .before .before .before .before .loop .inv .room))
+    (narrow-requires t)
+    (tried-alike-requires t)
     (λ c. omega arith)
     (loop-again-2 t)
+    (λ c. omega (arith, tries-below t (c .before .before .before .before .before .before .before .before .before)))
+    (λ c. tries-below t (c .before .before .before .before .before .before .before .before .before))
+    (λ c. omega (arith, tries-below t (c .before .before .before .before .before .before .before .before .before)))
+    (λ c. tries-below t (c .before .before .before .before .before .before .before .before .before))
+    (λ c. omega (arith, bounds t (c .before .before .before .before .before .before .before .before .before)))
+    (λ c. omega (arith, place-below t (c .before .before .before .before .before .before .before .before .before .before .before .before .before .before .before .before .before .before), c .before .before .before .before .before .before .before .before .before .before .loop .inv .same))
+    (add-search t)
+    (λ c. c .before .before .before .before .before .before .narrow .ensures .room)
+    (λ c. sym (length-take-le _ _ (c .before .before .before .before .before .before .before .narrow .ensures .room)))
+    (search-requires t)
+    (λ c. search needs)
+    (λ c. omega (arith, tries-below t (c .before .before .before .before .before .before .before .before .before .before .before .before .before .before .before .before)))
+    (λ c. omega arith)
+    (loop-again-3 t)
     (λ c. search needs)
     (λ c. ended t (c .before .before .before .before .before) .0)
     (returns-2 t)
-    (λ c. c .before .loop .inv .1)
+    (λ c. c .before .loop .inv .same)
     (returns-3 t))

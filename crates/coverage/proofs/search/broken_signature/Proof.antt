@@ -8,9 +8,9 @@ use borrow.Author.Count.{below-none, below-more}
 use borrow.Author.Needs.{needs}
 use Rattle.rules.specs.Model.{modelOf}
 use Rattle.rules.specs.Coverage.{brokenTuple, isSome}
-use Rattle.layout.proofs.Opened.{counts-of}
+use Rattle.layout.proofs.Opened.{wellformed-of, counts-of}
 use Rattle.coverage.specs.Search.{coverageOf}
-use Rattle.coverage.proofs.Violations.{signature-holds, signature-breaks, signatures-hold}
+use Rattle.coverage.proofs.Violations.{signature-holds, signature-implied, signature-breaks, signatures-hold}
 use Rattle.coverage.proofs.search.broken_signature.Statement.{statement}
 use Rattle.coverage.proofs.search.broken_signature.Tie as tie
 
@@ -21,17 +21,22 @@ abbrev μ-loop : tie.MeasureT-loop
 μ-loop bytes b scratch signatures s₀ s = b .signatures - s
 
 loop-again : tie.Need-loop-again Inv-loop μ-loop
-unfolding coverageOf
 loop-again c =
+    let l = c .before .before .before in
+    (omega arith, below-more _ _ (l .loop .inv .1) (signature-implied _ (wellformed-of (l .before .before .before .pre .opened)) (l .loop .s) (l .loop .inv .1) (sym (c .before .implied .ensures) ∙ c .if1 .taken)))
+
+loop-again-2 : tie.Need-loop-again-2 Inv-loop μ-loop
+unfolding coverageOf
+loop-again-2 c =
     let u = c .before .before in
-    let l = u .before .before .loop in
+    let l = u .before .before .before .before .loop in
     (omega arith, below-more _ _ (l .inv .1) (signature-holds _ (l .s) (sym (ap coverageOf (c .enum-told .given .1)) ∙ u .broken-tuple .ensures)))
 
 returns : tie.Need-returns Inv-loop μ-loop
 unfolding coverageOf
 returns c =
     let u = c .before .before .before in
-    let l = u .before .before in
+    let l = u .before .before .before .before in
     let counts = counts-of (l .before .before .before .pre .opened) in
     signature-breaks _ (l .loop .s) _ (omega arith) (l .loop .inv .1) (sym (ap coverageOf (c .before .at .given .1)) ∙ u .broken-tuple .ensures)
 
@@ -51,9 +56,12 @@ broken-signature-spec =
     (λ c. (omega arith, below-none _))
     (λ c. omega arith)
     (λ c κs. search needs)
-    (λ c. search needs)
     (λ c. omega arith)
     loop-again
+    (λ c κs. search needs)
+    (λ c. search needs)
+    (λ c. omega arith)
+    loop-again-2
     (λ c. search needs)
     returns
     returns-2)

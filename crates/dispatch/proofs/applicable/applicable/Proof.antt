@@ -1,56 +1,75 @@
 -- `dispatch::applicable::applicable` meets its contract. The loop's invariant: the list holds the applicable ones of the methods below m.
 -- Assumes nothing.
-use Prim.Native.Nat.{_-_, _<_}
+use Prim.Native.Nat.{_+_, _-_, _≤_, _<_}
 use native.Mathlib.Omega.{arith}
-use mathlib.Core.Path.{sym, _∙_}
-use lib.ListN.{length}
+use mathlib.Core.Path.{_≡_, sym, _∙_}
+use lib.ListN.{length, getD}
 use borrow.Author.Tests.{not-true, not-false}
-use Rattle.rules.specs.Bounded.{upto}
-use Rattle.rules.specs.Layout.{maxMethods}
+use Rattle.rules.specs.Layout.{maxFunctions, maxMethods}
 use Rattle.rules.specs.Model.{modelOf}
 use Rattle.rules.specs.Lookup.{applicable}
 use Rattle.layout.proofs.Opened.{wellformed-of, counts-of}
-use Rattle.dispatch.specs.Listed.{suited}
-use Rattle.dispatch.proofs.Kept.{Keeping, keeping-none, upto-miss, upto-hit, upto-all}
+use Rattle.dispatch.proofs.Asked.{of-arity}
+use Rattle.dispatch.proofs.Kept.{upto-all}
+use Rattle.dispatch.proofs.Indexed.{indexed-of, Walking, walk-begins, walk-rises, walk-miss, walk-hit}
 use Rattle.dispatch.proofs.applicable.applicable.Statement.{statement}
 use Rattle.dispatch.proofs.applicable.applicable.Tie as tie
 
 abbrev Inv-loop : tie.InvT-loop
-Inv-loop bytes b scratch f args list₀ methods count₀ m₀ list count m =
-    Keeping (suited (modelOf bytes) f args) (upto (modelOf bytes .methods)) list₀ list m count
+Inv-loop bytes b scratch index f args list₀ methods count₀ m₀ list count m = Walking (modelOf bytes) f args list₀ list m count
 
 abbrev μ-loop : tie.MeasureT-loop
-μ-loop bytes b scratch f args list₀ methods count₀ m₀ list count m = b .methods - m
+μ-loop bytes b scratch index f args list₀ methods count₀ m₀ list count m = b .methods - m
 
--- the list is long enough for every method
-room : (c : tie.Else1 Inv-loop μ-loop) → let l = c .before .before .before .loop in (l .count < length (l .list)) × (l .count < maxMethods)
+-- the function has its entry
+entry : (c : tie.After-slice-known Inv-loop μ-loop) → c .before .before .before .before .before .args .f < maxFunctions
+entry c =
+    let p = c .before .before .before .before .before .pre in
+    omega (arith, p .1 .1 .0 .function, wellformed-of (p .0 .opened) .functions-limit)
+
+-- there is a method left, and the index and the list have room for every one
+room : (c : tie.In-loop Inv-loop μ-loop)
+    → let l = c .before .loop in
+    let a = c .before .before .before .before .before .before .before .before .args in
+    (l .m < modelOf (a .bytes .now) .methods) × (modelOf (a .bytes .now) .methods ≤ maxMethods) × (length (a .index .now) ≡ maxFunctions + maxMethods)
+    × (l .count ≤ l .m) × (length (l .list) ≡ length (a .list .now))
 room c =
     let p = c .before .before .before .before .before .before .before .before .pre in
     let counts = counts-of (p .0 .opened) in
-    let limit = wellformed-of (p .0 .opened) .methods-limit in
-    (omega arith, omega arith)
+    (omega arith, wellformed-of (p .0 .opened) .methods-limit, indexed-of (p .1 .0) .long, c .before .loop .inv .keeping .few, c .before .loop .inv .keeping .same)
+
+-- the next method is a higher one
+rises : (c : tie.In-loop Inv-loop μ-loop)
+    → let m = c .before .loop .m in m < getD (c .before .before .before .before .before .before .before .before .args .index .now) (maxFunctions + m) 0
+rises c =
+    let r = room c in
+    walk-rises _ _ _ _ (indexed-of (c .before .before .before .before .before .before .before .before .pre .1 .0)) (c .before .loop .inv) (r .0) (r .1)
+
+applies-requires : tie.Need-applies-requires Inv-loop μ-loop
+applies-requires c κs =
+    let p = c .before .before .before .before .before .before .before .before .before .pre in
+    let args = p .1 .1 .0 in
+    (p .0, (of-arity (p .0 .opened) (args .arity) (omega arith) (c .before .before .loop .inv .of-function (room (c .before) .0)), args .classes))
 
 loop-again : tie.Need-loop-again Inv-loop μ-loop
 loop-again c =
-    let l = c .before .before .before in
-    let counts = counts-of (l .before .before .before .before .before .pre .0 .opened) in
-    upto-miss _ _ _ (l .loop .inv) (omega arith) (sym (c .before .suits .ensures) ∙ not-true _ (c .if1 .taken))
+    let p = c .before .before .before .before .before .before .before .before .before .before .before .pre in
+    let r = room (c .before .before .before) in
+    walk-miss _ _ _ _ (indexed-of (p .1 .0)) (c .before .before .before .before .loop .inv) (r .0) (r .1) (sym (c .before .applies .ensures) ∙ not-true _ (c .if1 .taken))
 
 loop-again-2 : tie.Need-loop-again-2 Inv-loop μ-loop
 loop-again-2 c =
-    let l = c .before .before .before in
-    let p = l .before .before .before .before .before .pre in
-    let counts = counts-of (p .0 .opened) in
-    let limit = wellformed-of (p .0 .opened) .methods-limit in
-    upto-hit _ _ _ (l .loop .inv) (omega arith) (omega arith) (sym (c .before .suits .ensures) ∙ not-false _ (c .if1 .left))
+    let p = c .before .before .before .before .before .before .before .before .before .before .before .pre in
+    let r = room (c .before .before .before) in
+    walk-hit _ _ _ _ (indexed-of (p .1 .0)) (c .before .before .before .before .loop .inv) (r .0) (r .1) (omega arith) (sym (c .before .applies .ensures) ∙ not-false _ (c .if1 .left))
 
 returns : tie.Need-returns Inv-loop μ-loop
 unfolding applicable
 returns c =
-    let p = c .before .before .before .before .before .before .pre in
+    let p = c .before .before .before .before .before .before .before .before .pre in
     let counts = counts-of (p .0 .opened) in
     let limit = wellformed-of (p .0 .opened) .methods-limit in
-    upto-all _ _ _ (c .before .loop .inv) (omega arith) (omega arith)
+    upto-all _ _ _ (c .before .loop .inv .keeping) (omega arith) (omega arith)
 
 pub applicable-spec : {M : Type 1} → statement M
 applicable-spec =
@@ -58,15 +77,19 @@ applicable-spec =
     (tie.spec
     Inv-loop
     μ-loop
-    (λ c. keeping-none _ _ _)
-    (λ c. omega arith)
-    (λ c κs. let p = c .before .before .before .before .before .before .pre in (p .0, (p .1 .0, omega arith)))
-    (λ c. omega arith)
+    (λ c. omega (arith, entry c))
+    (λ c. omega (arith, entry (c .before), indexed-of (c .before .before .before .before .before .before .pre .1 .0) .long))
+    (λ c. walk-begins _ _ _ _ (indexed-of (c .before .before .before .before .before .before .pre .1 .0)) (entry (c .before)))
+    (λ c. omega (arith, room c))
+    (λ c. omega (arith, room c))
+    (λ c. omega (arith, room (c .before)))
+    applies-requires
+    (λ c. omega (arith, rises (c .before .before .before)))
     loop-again
-    (λ c. omega (arith, room c))
-    (λ c. room c .0)
-    (λ c. omega (arith, room c))
-    (λ c. omega arith)
+    (λ c. omega (arith, room (c .before .before .before)))
+    (λ c. omega (arith, room (c .before .before .before)))
+    (λ c. omega (arith, room (c .before .before .before)))
+    (λ c. omega (arith, rises (c .before .before .before)))
     loop-again-2
-    (λ c. c .before .loop .inv .same)
+    (λ c. c .before .loop .inv .keeping .same)
     returns)

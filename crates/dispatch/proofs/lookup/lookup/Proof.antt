@@ -15,13 +15,13 @@ array-share-prefix-list c = c .before .applicable .ensures .room
 
 select-requires : tie.Need-select-requires
 select-requires c κs =
-    let p = c .before .before .before .before .before .before .before .pre in
-    (p .0, record { arity = p .1 .arity; methods = rw (c .before .before .applicable .ensures .holds) (applicable-listed _ _ _) })
+    let p = c .before .before .before .before .before .before .before .before .pre in
+    (p .0, record { arity = p .1 .1 .arity; methods = rw (c .before .before .applicable .ensures .holds) (applicable-listed _ _ _) })
 
 returns : tie.Need-returns
 unfolding rules.lookup
 returns c =
-    let a = c .before .before .before .before .before .before .before .before .args in
+    let a = c .before .before .before .before .before .before .before .before .before .args in
     c .select .ensures ∙ ap (rules.select (modelOf (a .bytes .now))) (c .before .before .before .applicable .ensures .holds)
 
 pub lookup-spec : {M : Type 1} → statement M
@@ -29,7 +29,7 @@ lookup-spec =
     tie.close
     (tie.spec
     (λ c. search needs)
-    (λ c κs. let p = c .before .before .before .before .pre in (p .0, (p .1, omega arith)))
+    (λ c κs. let p = c .before .before .before .before .before .pre in (p .0, (p .1 .0, (p .1 .1, omega arith))))
     array-share-prefix-list
     (λ c. sym (length-take-le _ _ (array-share-prefix-list (c .before))))
     select-requires

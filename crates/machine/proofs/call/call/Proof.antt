@@ -15,22 +15,22 @@ use Rattle.machine.proofs.call.call.Statement.{statement}
 use Rattle.machine.proofs.call.call.Tie as tie
 
 of-requires : tie.Need-of-requires
-of-requires c κs = let p = c .before .before .before .before .before .before .before .before .pre in arguments-few (wellformed-of (p .0 .opened)) (p .1 .0)
+of-requires c κs = let p = c .before .before .before .before .before .before .before .before .before .pre in arguments-few (wellformed-of (p .0 .opened)) (p .1 .1 .0)
 
 of-requires-2 : tie.Need-of-requires-2
-of-requires-2 c κs = let p = c .before .before .before .before .before .before .before .before .before .pre in arguments-few (wellformed-of (p .0 .opened)) (p .1 .0)
+of-requires-2 c κs = let p = c .before .before .before .before .before .before .before .before .before .before .pre in arguments-few (wellformed-of (p .0 .opened)) (p .1 .1 .0)
 
 -- the method found is a method of the function
 is-found : (c : tie.After-found2)
-    → let a = c .before .before .before .before .before .before .before .before .args in found (c .found2 .given .0 .0) ≡ lookup (modelOf (a .bytes .now)) (a .f) (a .args .now)
+    → let a = c .before .before .before .before .before .before .before .before .before .args in found (c .found2 .given .0 .0) ≡ lookup (modelOf (a .bytes .now)) (a .f) (a .args .now)
 unfolding foundOf
 is-found c = ap foundOf (sym (c .found2 .given .1)) ∙ c .before .before .lookup .ensures
 
 enter-requires : tie.Need-enter-requires
 enter-requires c κs =
-    let p = c .before .before .before .before .before .before .before .before .before .before .before .pre in
+    let p = c .before .before .before .before .before .before .before .before .before .before .before .before .pre in
     let h = lookup-leader _ _ _ _ (sym (is-found (c .before .before .before))) .candidate in
-    (p .0, (p .1 .0, (omega (arith, h .bound, counts-of (p .0 .opened)), (h .ofFunction, p .1 .1))))
+    (p .0, (p .1 .1 .0, (omega (arith, h .bound, counts-of (p .0 .opened)), (h .ofFunction, p .1 .1 .1))))
 
 returns : tie.Need-returns
 unfolding turnOf endingOf foundOf
