@@ -117,6 +117,12 @@ FURTHER = {
     # The signature's classes have no class under them, so that one send alone is covered.
     "three-argument-tie": bundle(
         ALONE + [(CONCRETE, [0])], [3], [(0, [1, 1, 1], 0)], [(0, args, args, 0, [(ARG, 0)]) for args in [[0, 1, 1], [1, 1, 0]]]),
+    # The declared class alone tells the two concrete classes apart.
+    "declared-apart": bundle(
+        [(ABSTRACT, []), (ABSTRACT, [0]), (CONCRETE, [1]), (CONCRETE, [0])], [1], [(0, [0], 0)], [(0, [0], [1], 0, [(NEW, 2)])]),
+    # The first signature allows the result of the method, the second does not.
+    "narrower-result": bundle(
+        [(ABSTRACT, []), (CONCRETE, [0]), (CONCRETE, [0])], [1], [(0, [1], 0), (0, [1], 1)], [(0, [1], [1], 2, [(NEW, 2)])]),
     "missing-argument": bundle(
         ALONE, [1, 0], [(0, [0], 0), (1, [], 0)], [(0, [0], [0], 0, [(ARG, 0)]), (1, [], [], 0, [(SEND, 0)])]),
 }
@@ -211,9 +217,15 @@ SHOWN = {
     "narrow-declared": (
         "refused by 12: the method found declares a narrower class than it applies to",
         ["classes 2 functions 1 signatures 1 methods 1", "refused 12 signature 0 send 0 0 method 0"]),
+    "declared-apart": (
+        "refused by 12: of two classes that the specialiser takes, the declared class does not hold the higher",
+        ["classes 4 functions 1 signatures 1 methods 1", "refused 12 signature 0 send 0 3 method 0"]),
     "wide-result": (
         "refused by 13: the method's result class is not under the signature's",
         ["classes 2 functions 1 signatures 1 methods 1", "refused 13 signature 0 send 0 method 0"]),
+    "narrower-result": (
+        "refused by 13: the second of two signatures, with the same arguments and a narrower result",
+        ["classes 3 functions 1 signatures 2 methods 1", "refused 13 signature 1 send 0 1 method 0"]),
     "two-values": (
         "refused by 14: the body ends with two values",
         ["classes 1 functions 1 signatures 1 methods 1", "refused 14 method 0 at 2"]),

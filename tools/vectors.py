@@ -123,6 +123,44 @@ def chained(places):
     return make.bundle(chain(CLASSES), [PLACES], [(0, [0] * PLACES, 0)], [(0, own, own, 0, [(make.NEW, 0)]) for own in places])
 
 
+def of_methods(classes, arities, signatures, methods):
+    """a bundle whose methods, each a function with specialisers and declared classes, make an object of the last class"""
+    return make.bundle(classes, arities, signatures, [(*own, 0, [(make.NEW, len(classes) - 1)]) for own in methods])
+
+
+def leaving_out():
+    """(bundle, number, values) for checks in which a class or a signature is like one that comes before it, so that a search may leave it out, or is not
+    quite like it, so that it may not"""
+    pair = [(make.ABSTRACT, []), (make.CONCRETE, [0]), (make.CONCRETE, [0])]
+    # Of two classes that no specialiser below tells apart, class 1 holds the lower and not the higher.
+    apart = [(make.ABSTRACT, []), (make.ABSTRACT, [0]), (make.CONCRETE, [1]), (make.CONCRETE, [0])]
+    wide, narrow = (0, [0], 0), (0, [1], 0)
+    yield make.FURTHER["declared-apart"], 12, [0, 0, 3, 0, 0, 0]
+    # Only after one of the classes at the first place is there a method that declares it at the second.
+    yield of_methods(apart, [2], [(0, [0, 0], 0)], [(0, [2, 0], [2, 0]), (0, [3, 0], [3, 1])]), 12, [0, 0, 3, 3, 0, 1]
+    # A specialiser alone tells two classes apart.
+    yield of_methods(pair, [1], [wide], [(0, [1], [0])]), 10, [0, 0, 2, 0, 0]
+    # A method of its own for the higher class.
+    yield of_methods(apart, [1], [wide], [(0, [0], [1]), (0, [3], [3])]), 0, []
+    # The class that no method applies to is like a lower one that is abstract; not under the signature's class; tried, but beside another class.
+    yield make.FURTHER["uncovered-class"], 10, [0, 0, 2, 0, 0]
+    yield of_methods([*pair, (make.CONCRETE, [2])], [1], [(0, [2], 0)], [(0, [3], [3])]), 10, [0, 0, 2, 0, 0]
+    yield of_methods(pair, [2], [(0, [0, 0], 0)], [(0, [1, 0], [1, 0]), (0, [2, 2], [2, 2])]), 10, [0, 0, 2, 1, 0]
+    # The same arguments as those of the signature before, and a narrower result; a wider one.
+    yield make.FURTHER["narrower-result"], 13, [1, 0, 1, 0, 0, 0]
+    yield make.bundle(pair, [1], [(0, [1], 1), narrow], [(0, [1], [1], 1, [(make.NEW, 1)])]), 0, []
+    # Wider arguments than those before: at the second place, at the first, at one place than either of two; another function; a lower signature that is
+    # broken too.
+    some, either = [(0, [1, 1], [1, 1])], [(0, [0, 1], [0, 1]), (0, [1, 0], [1, 0]), (0, [1, 1], [1, 1])]
+    yield of_methods(pair, [2], [(0, [1, 1], 0), (0, [1, 0], 0)], some), 10, [1, 0, 1, 2, 0]
+    yield of_methods(pair, [2], [(0, [1, 1], 0), (0, [0, 1], 0)], some), 10, [1, 0, 2, 1, 0]
+    yield of_methods(pair, [2], [(0, [0, 1], 0), (0, [1, 0], 0), (0, [0, 0], 0)], either), 10, [2, 0, 2, 2, 0]
+    yield of_methods(pair[:2], [1, 1], [wide, (1, [0], 0)], [(0, [0], [0])]), 10, [1, 1, 1, 0, 0]
+    yield of_methods(pair, [1], [narrow, wide], [(0, [2], [2])]), 10, [0, 0, 1, 0, 0]
+    # The same signature again, and narrower arguments.
+    yield of_methods(pair, [1], [wide, wide, narrow], [(0, [0], [0])]), 0, []
+
+
 def without_method():
     return make.bundle(flat(1), [0], [(0, [], 0)])
 
@@ -417,6 +455,7 @@ def check_cases(folder):
         (most_methods(), 0),
         *((chained(places), 0) for places in [[[i, j, 0] for i in range(22) for j in range(23)], last, last[::-1]]),
         (most_tuples(True), 13, [0, 0, *[CLASSES - 1] * PLACES, 1]),
+        *leaving_out(),
     ]:
         yield bundle, Call("check", scratch=SCRATCH), reply(*answer)
     yield from turned_away(folder, "check", [])

@@ -2,32 +2,53 @@
 
 use builder::{Parts, Random, ARG, NEW, SEND};
 
-/// As many records as the limits allow, and bodies to fill 65,535 bytes.
-pub fn largest() -> Vec<u8> {
+/// 128 concrete classes in a tree: two children to a class, down to depth 6.
+fn tree() -> Parts {
     let mut parts = Parts::default();
     parts.class(true, &[]);
-    for number in 1..128 {
-        parts.class(true, if number % 2 == 0 { &[0, 1] } else { &[0] });
+    for number in 1..128u8 {
+        // The last class would begin depth 7; it is a third child instead.
+        parts.class(true, &[((number - 1) / 2).min(62)]);
     }
-    for _ in 0..64 {
-        parts.function(3);
+    parts
+}
+
+/// As many records as the limits allow, and bodies to fill 65,535 bytes. It is accepted. A function has arguments and
+/// results in one of the eight parts that depth 3 divides the tree into, and its bodies send functions of that part.
+pub fn largest() -> Vec<u8> {
+    let mut parts = tree();
+    for function in 0..64 {
+        parts.function(1 + function % 3);
     }
-    for number in 0..=255 {
-        parts.signature(number % 64, [number % 128, number / 2, 0], 0);
+    let at_used = |function: u8, class: u8| [0, 1, 2].map(|place| if place <= function % 3 { class } else { 0 });
+    let top = |function: u8| 7 + function % 8;
+    for number in 0..=255u8 {
+        let function = number % 64;
+        parts.signature(function, at_used(function, top(function + number / 64)), top(function));
     }
-    for number in 0..512u16 {
-        let specialisers = [number % 128, number / 4, number / 128].map(|class| class as u8);
-        parts.method((number % 64) as u8, specialisers, 0, &[[NEW, 0]; 55]);
-    }
-    let mut free = 65_535 - parts.bytes().len();
-    for method in &mut parts.methods {
-        while free >= 2 && method.body.len() < 64 {
-            method.body.push([SEND, 63]);
-            free -= 2;
+    for function in 0..64 {
+        let top = top(function);
+        parts.method(function, [0; 3], top, &[[NEW, top]]);
+        for class in [top, 2 * top + 1, 2 * top + 2].into_iter().chain(4 * top + 3..4 * top + 7) {
+            parts.method(function, at_used(function, class), top, &[[ARG, 0]]);
         }
     }
-    if free == 1 {
-        parts.classes[127].parents.push(1);
+    let free = (65_535 - parts.bytes().len()) / 2;
+    let methods = parts.methods.len();
+    for (number, method) in parts.methods.iter_mut().enumerate() {
+        let length = 1 + free / methods + (number < free % methods) as usize;
+        let value = method.body[0];
+        // Functions of the same part in turn; those of one argument fill what is left.
+        for function in (method.function % 8..64).step_by(8).cycle() {
+            let others = function as usize % 3;
+            if method.body.len() + others < length {
+                method.body.extend(std::iter::repeat_n(value, others));
+                method.body.push([SEND, function]);
+            }
+            if method.body.len() == length {
+                break;
+            }
+        }
     }
     let bytes = parts.bytes();
     assert_eq!(bytes.len(), 65_535);
@@ -108,21 +129,48 @@ pub fn many_methods(broken: bool) -> Vec<u8> {
     parts.bytes()
 }
 
-/// The same signature over a chain of 128 classes, and 382 methods, of which most apply to most tuples.
-pub fn chain() -> Vec<u8> {
+/// The same signature, so many times, over a chain of 128 classes, and 382 methods, of which most apply to most tuples.
+pub fn chain(times: usize) -> Vec<u8> {
     let mut parts = Parts::default();
     parts.class(true, &[]);
     for number in 1..128 {
         parts.class(true, &[number - 1]);
     }
     let function = parts.function(3);
-    parts.signature(function, [0; 3], 0);
+    for _ in 0..times {
+        parts.signature(function, [0; 3], 0);
+    }
     // One line of methods, each more specific than the one before.
     let mut specialisers = [0; 3];
     parts.method(function, specialisers, 0, &[[NEW, 0]]);
     for number in 0..381 {
         specialisers[number % 3] += 1;
         parts.method(function, specialisers, 0, &[[NEW, 0]]);
+    }
+    parts.bytes()
+}
+
+/// Adds a method, and takes it away again where the bundle is refused with it: a twin, or a tuple for which no method leads.
+fn method_if_accepted(parts: &mut Parts, function: u8, specialisers: [u8; 3], body: &[[u8; 2]]) {
+    parts.method(function, specialisers, 0, body);
+    if fast::check(&parts.bytes(), &mut [0; fast::SCRATCH], &mut [0; 8]) != 0 {
+        parts.methods.pop();
+    }
+}
+
+/// Four functions of three arguments over the tree of 128 classes, with 60 methods. It is accepted.
+pub fn four_functions() -> Vec<u8> {
+    let mut random = Random::new(6);
+    let mut parts = tree();
+    for _ in 0..4 {
+        let function = parts.function(3);
+        parts.signature(function, [0; 3], 0);
+        parts.method(function, [0; 3], 0, &[[NEW, 0]]);
+    }
+    while parts.methods.len() < 60 {
+        let function = (parts.methods.len() % 4) as u8;
+        let specialisers = [0; 3].map(|_| random.of(&[0, 1]) * random.below(128) as u8);
+        method_if_accepted(&mut parts, function, specialisers, &[[ARG, 0]]);
     }
     parts.bytes()
 }
@@ -159,11 +207,7 @@ pub fn department() -> Vec<u8> {
             body.resize(parts.functions[function as usize - 1] as usize, [ARG, 0]);
             body.push([SEND, function - 1]);
         }
-        parts.method(function, specialisers, 0, &body);
-        // A twin, or a tuple for which no method leads: draw again.
-        if plain::check(&parts.bytes(), &mut [0; plain::SCRATCH]).number != 0 {
-            parts.methods.pop();
-        }
+        method_if_accepted(&mut parts, function, specialisers, &body);
     }
     while parts.signatures.len() < 60 {
         let function = (parts.signatures.len() % 10) as u8;
@@ -175,6 +219,15 @@ pub fn department() -> Vec<u8> {
         parts.signature(function, arguments, 0);
     }
     parts.bytes()
+}
+
+/// A body that sends the next function over and over.
+fn sends_next(function: u8) -> Vec<[u8; 2]> {
+    let mut body = vec![[ARG, 0]];
+    for _ in 0..31 {
+        body.extend([[ARG, 1], [SEND, function + 1]]);
+    }
+    body
 }
 
 /// A run of more than ten million steps: five functions, each of which sends the next one over and over, and a last one
@@ -190,10 +243,7 @@ pub fn long_run() -> Vec<u8> {
         parts.signature(function, [0; 3], 0);
     }
     for function in 0..5 {
-        let mut body = vec![[ARG, 0]];
-        for _ in 0..31 {
-            body.extend([[ARG, 1], [SEND, function + 1]]);
-        }
+        let body = sends_next(function);
         parts.method(function, [0; 3], 0, &body);
         for class in 1..4 {
             parts.method(function, [class, 0, 0], 0, &body);
@@ -203,5 +253,26 @@ pub fn long_run() -> Vec<u8> {
     parts.method(5, [1, 0, 0], 0, &[[NEW, 2]]);
     parts.method(5, [2, 0, 0], 0, &[[NEW, 3]]);
     parts.method(5, [3, 0, 0], 0, &[[NEW, 1]]);
+    parts.bytes()
+}
+
+/// As long a run of seven methods, one to a function, in a bundle that has so many; the others are of a function that is
+/// never sent.
+pub fn run_among(methods: usize) -> Vec<u8> {
+    let mut parts = Parts::default();
+    parts.class(true, &[]);
+    for _ in 1..32 {
+        parts.class(true, &[0]);
+    }
+    for function in 0..7 {
+        parts.function(2);
+        parts.signature(function, [0; 3], 0);
+        let body = if function < 6 { sends_next(function) } else { vec![[ARG, 0]] };
+        parts.method(function, [0; 3], 0, &body);
+    }
+    let other = parts.function(2);
+    for number in 0..methods - parts.methods.len() {
+        parts.method(other, [(number / 32) as u8, (number % 32) as u8, 0], 0, &[[ARG, 0]]);
+    }
     parts.bytes()
 }

@@ -41,9 +41,14 @@ fn cases() -> Vec<Case> {
         check_case("check 2,097,152 tuples, 7 methods, last one broken", bundles::few_methods(true), 11),
         check_case("check 2,097,152 tuples, 512 methods, accepted", bundles::many_methods(false), 0),
         check_case("check 2,097,152 tuples, 512 methods, last one broken", bundles::many_methods(true), 11),
-        without_plain(check_case("check 2,097,152 tuples, 382 methods in a line, accepted", bundles::chain(), 0)),
+        without_plain(check_case("check 2,097,152 tuples, 382 methods in a line, accepted", bundles::chain(1), 0)),
+        without_plain(check_case("check the same signature 256 times, accepted", bundles::chain(256), 0)),
+        check_case("check four functions, a tree of 128 classes, 60 methods, accepted", bundles::four_functions(), 0),
         check_case("check a department: 40, 10, 60, 120 records", bundles::department(), 0),
+        check_case("check the largest bundle, accepted", bundles::largest(), 0),
         run_case("run of 10,000,000 steps", bundles::long_run()),
+        run_case("run of 10,000,000 steps, one method to a function, 7 methods", bundles::run_among(7)),
+        run_case("run of 10,000,000 steps, the same among 512 methods", bundles::run_among(512)),
     ]
 }
 

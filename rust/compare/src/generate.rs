@@ -1,20 +1,31 @@
 //! Bundles that open: of many sizes and shapes, and often repaired until the check accepts them.
 
+use crate::alike;
+use crate::hierarchy::Hierarchy;
 use builder::{Method, Parts, Random, ARG, NEW, SEND};
 
 /// How many tuples a check of the bundle may have to try, times methods, so that no bundle takes long.
 const WORK: usize = 60_000;
+const MORE_WORK: usize = 600_000;
 const MUCH_WORK: usize = 6_000_000;
 
 /// A bundle that opens.
 pub fn parts(random: &mut Random, number: usize) -> Parts {
-    let work = if number % 400 == 7 { MUCH_WORK } else { WORK };
+    // Many concrete classes, and few methods that tell them apart.
+    let crowded = number % 16 == 3;
+    let work = match number % 400 {
+        7 => MUCH_WORK,
+        _ if crowded => MORE_WORK,
+        _ => WORK,
+    };
     loop {
-        let mut parts = drawn(random);
+        let mut parts = drawn(random, crowded);
         let repairs = random.of(&[0, 0, 1, 3, 200, 200, 200, 200]);
         if within(&parts, work) && repair(&mut parts, random, repairs, work) {
-            if repairs == 200 && random.once_in(3) {
-                spoil(&mut parts, random);
+            match random.below(3) {
+                0 if repairs == 200 => spoil(&mut parts, random),
+                1 if repairs == 200 => alike::mislead(&mut parts, random),
+                _ => {}
             }
             if within(&parts, work) {
                 return parts;
@@ -25,19 +36,12 @@ pub fn parts(random: &mut Random, number: usize) -> Parts {
 
 /// Whether the bundle's bytes fit and its check stays within the work.
 fn within(parts: &Parts, work: usize) -> bool {
-    let above = ancestors(parts);
+    let hierarchy = Hierarchy::of(parts);
     let mut sum = 0;
     for signature in &parts.signatures {
         let places = parts.functions[signature.function as usize] as usize;
-        let tuples: usize = (0..places)
-            .map(|place| {
-                (0..parts.classes.len())
-                    .filter(|&class| {
-                        parts.classes[class].concrete && above[class] >> signature.arguments[place] & 1 == 1
-                    })
-                    .count()
-            })
-            .product();
+        let tuples: usize =
+            signature.arguments[..places].iter().map(|&class| hierarchy.concrete_under(class).count()).product();
         sum += tuples * (1 + parts.methods.len());
     }
     let code: usize = parts.methods.iter().map(|method| 12 + 2 * method.body.len()).sum();
@@ -45,19 +49,16 @@ fn within(parts: &Parts, work: usize) -> bool {
     sum <= work && code + parents + 5 * parts.signatures.len() + 200 <= 65_535
 }
 
-/// For each class the set of classes it is under.
-fn ancestors(parts: &Parts) -> Vec<u128> {
-    let mut sets: Vec<u128> = Vec::new();
-    for (number, class) in parts.classes.iter().enumerate() {
-        sets.push(class.parents.iter().fold(1 << number, |set, &parent| set | sets[parent as usize]));
-    }
-    sets
-}
-
-fn drawn(random: &mut Random) -> Parts {
+fn drawn(random: &mut Random, crowded: bool) -> Parts {
     let mut parts = Parts::default();
-    draw_classes(&mut parts, random);
+    if crowded {
+        let count = random.within(20, 128);
+        alike::draw_classes(&mut parts, random, count);
+    } else {
+        draw_classes(&mut parts, random);
+    }
     let functions = match random.below(20) {
+        _ if crowded => random.within(1, 2),
         0 => 0,
         1 => random.within(6, 64),
         _ => random.within(1, 5),
@@ -74,8 +75,15 @@ fn drawn(random: &mut Random) -> Parts {
         _ => random.within(1, 2 * functions.min(6)),
     };
     for _ in 0..signatures {
+        if !parts.signatures.is_empty() && random.once_in(3) {
+            alike::add_related_signature(&mut parts, random);
+            continue;
+        }
         let function = random.below(functions) as u8;
-        let arguments = places(&parts, random, function);
+        let mut arguments = places(&parts, random, function);
+        if crowded {
+            arguments = arguments.map(|class| first_parent(&parts, class));
+        }
         let result = general(&parts, random);
         parts.signature(function, arguments, result);
     }
@@ -87,6 +95,9 @@ fn drawn(random: &mut Random) -> Parts {
     for _ in 0..methods {
         draw_method(&mut parts, random);
     }
+    for _ in 0..random.of(&[0, 0, 1, 4]) {
+        alike::declare_apart(&mut parts, random);
+    }
     parts
 }
 
@@ -97,6 +108,9 @@ fn draw_classes(parts: &mut Parts, random: &mut Random) {
         17..=18 => random.within(10, 40),
         _ => random.within(80, 128),
     };
+    if random.once_in(4) {
+        return alike::draw_classes(parts, random, count);
+    }
     let shape = random.below(6);
     let abstracts = random.of(&[0, 1, 2, 3, 6]);
     for number in 0..count {
@@ -137,6 +151,11 @@ fn general(parts: &Parts, random: &mut Random) -> u8 {
     random.below(random.clone().below(count) + 1) as u8
 }
 
+/// The lowest parent of a class; of class 0 itself.
+fn first_parent(parts: &Parts, class: u8) -> u8 {
+    parts.classes[class as usize].parents.first().copied().unwrap_or(0)
+}
+
 /// A general class at each used place.
 fn places(parts: &Parts, random: &mut Random, function: u8) -> [u8; 3] {
     let mut triple = [0; 3];
@@ -166,7 +185,7 @@ fn draw_method(parts: &mut Parts, random: &mut Random) {
         match random.below(12) {
             0 => *class = 0,
             1 => *class = general(parts, random),
-            2 => *class = parts.classes[*class as usize].parents.first().copied().unwrap_or(0),
+            2 => *class = first_parent(parts, *class),
             _ => {}
         }
     }
@@ -213,14 +232,11 @@ fn body(parts: &Parts, random: &mut Random, function: u8, result: u8) -> Vec<[u8
 
 /// A concrete class under another, or any class where there is none.
 fn fitting(parts: &Parts, random: &mut Random, result: u8) -> u8 {
-    let above = ancestors(parts);
-    let fit: Vec<usize> = (0..parts.classes.len())
-        .filter(|&class| parts.classes[class].concrete && above[class] >> result & 1 == 1)
-        .collect();
+    let fit: Vec<u8> = Hierarchy::of(parts).concrete_under(result).collect();
     if fit.is_empty() || random.once_in(60) {
         return random.below(parts.classes.len()) as u8;
     }
-    random.of(&fit) as u8
+    random.of(&fit)
 }
 
 fn leaf(parts: &Parts, random: &mut Random, function: u8, result: u8) -> [u8; 2] {
@@ -254,7 +270,7 @@ fn repair(parts: &mut Parts, random: &mut Random, times: usize, work: usize) -> 
         let v = v.map(|value| value as usize);
         match number {
             10 | 11 => repair_lookup(parts, random, number, v),
-            12 => parts.methods[v[5]].declared = parts.methods[v[5]].specialisers,
+            12 => alike::repair_declared(parts, random, v[5], [v[2], v[3], v[4]]),
             13 => repair_result(parts, random, v),
             14..=17 => repair_body(parts, random, v[0]),
             _ => return true,

@@ -1,9 +1,11 @@
 //! Compares the verified library with the plain implementation: every entry point, every byte of scratch, row and text, over
 //! bundles that are made from fixed seeds.
 
+pub mod alike;
 pub mod calls;
 pub mod damage;
 pub mod generate;
+pub mod hierarchy;
 pub mod json;
 pub mod tally;
 pub mod vectors;
