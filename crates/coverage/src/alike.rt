@@ -77,8 +77,66 @@ fn is_alike(
     true
 }
 
-// Whether one of the first tried classes is found alike to class k. Alike classes keep as many methods of the list, so only those are compared that kept as
-// many as k; it is promised that a class found alike is, and not that each alike one is found.
+// A fingerprint with the answer of one class more: whether it is above class k.
+fn mixed(bytes: &[u8], b: Bundle, scratch: &[u8], fingerprint: usize, c: usize, k: usize) -> usize
+    requires { ⌜ Prepared (now bytes) b (now scratch) ⌝ }
+    requires { ⌜ c < b .classes ⌝ }
+    requires { ⌜ k < b .classes ⌝ }
+{
+    let next = fingerprint % 4294967296 * 16777619;
+    if under(scratch, k, c) {
+        return next + 1;
+    }
+    next
+}
+
+// A fingerprint with the answers of one method more.
+fn answered(
+    bytes: &[u8],
+    b: Bundle,
+    scratch: &[u8],
+    fingerprint: usize,
+    place: usize,
+    k: usize,
+    m: usize,
+) -> usize
+    requires { ⌜ Prepared (now bytes) b (now scratch) ⌝ }
+    requires { ⌜ place < places ⌝ }
+    requires { ⌜ k < b .classes ⌝ }
+    requires { ⌜ m < b .methods ⌝ }
+{
+    let c = specialiser(bytes, b, m, place);
+    let d = declared(bytes, b, m, place);
+    let half = mixed(bytes, b, scratch, fingerprint, c, k);
+    mixed(bytes, b, scratch, half, d, k)
+}
+
+// The answers of a list's methods at the place, whether specialiser and declared class hold class k, as one number. Alike classes share it, and others hardly
+// ever do. Nothing is promised of it, since it only says which classes are worth comparing.
+pub(crate) fn fingerprint(
+    bytes: &[u8],
+    b: Bundle,
+    scratch: &[u8],
+    place: usize,
+    list: &[usize],
+    k: usize,
+) -> usize
+    requires { ⌜ Prepared (now bytes) b (now scratch) ⌝ }
+    requires { ⌜ every (isMethod (modelOf (now bytes))) (now list) ≡ true ⌝ }
+    requires { ⌜ place < places ⌝ }
+    requires { ⌜ k < b .classes ⌝ }
+{
+    let mut answers = 0;
+    let mut i = 0;
+    while i < list.len() {
+        answers = answered(bytes, b, scratch, answers, place, k, list[i]);
+        i += 1;
+    }
+    answers
+}
+
+// Whether one of the first tried classes is found alike to class k. Alike classes have the same fingerprint, so only those are compared that have that of
+// k; it is promised that a class found alike is, and not that each alike one is found.
 pub(crate) fn tried_alike(
     bytes: &[u8],
     b: Bundle,
@@ -86,10 +144,10 @@ pub(crate) fn tried_alike(
     place: usize,
     list: &[usize],
     tried: &[usize; Bundle::CLASSES],
-    counts: &[usize; Bundle::CLASSES],
+    fingerprints: &[usize; Bundle::CLASSES],
     tries: usize,
     k: usize,
-    kept: usize,
+    own: usize,
 ) -> bool
     requires { ⌜ Prepared (now bytes) b (now scratch) ⌝ }
     requires { ⌜ every (isMethod (modelOf (now bytes))) (now list) ≡ true ⌝ }
@@ -104,7 +162,7 @@ pub(crate) fn tried_alike(
     while i < tries {
         let at = i;
         i += 1;
-        if counts[at] != kept {
+        if fingerprints[at] != own {
             continue;
         }
         if is_alike(bytes, b, scratch, place, list, tried[at], k) {

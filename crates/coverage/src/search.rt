@@ -1,6 +1,7 @@
 // The search for a tuple that breaks the coverage rule: tuples are built place by place, and each place filled narrows the methods that can apply. What
 // an earlier part of the search has settled is not searched again: a class that no method left tells from a tried one, and a signature that an earlier one
 // implies.
+use crate::alike::fingerprint;
 use crate::alike::tried_alike;
 use crate::dominance::drop_dominated;
 use crate::implied::implied;
@@ -167,7 +168,7 @@ fn search(
     let classes = b.classes;
     let mut next = blank();
     let mut tried = [0usize; Bundle::CLASSES];
-    let mut counts = [0usize; Bundle::CLASSES];
+    let mut fingerprints = [0usize; Bundle::CLASSES];
     let mut tries = 0;
     let mut k = 0;
     while k < classes {
@@ -177,6 +178,7 @@ fn search(
             continue;
         }
         let kept = narrow(bytes, b, scratch, f, n, place, class, enough, &mut next);
+        let own = fingerprint(bytes, b, scratch, place, enough, class);
         if tried_alike(
             bytes,
             b,
@@ -184,15 +186,15 @@ fn search(
             place,
             enough,
             &tried,
-            &counts,
+            &fingerprints,
             tries,
             class,
-            kept,
+            own,
         ) {
             continue;
         }
         tried[tries] = class;
-        counts[tries] = kept;
+        fingerprints[tries] = own;
         chosen[place] = class as u8;
         match search(bytes, b, scratch, s, f, place + 1, chosen, &next[..kept]) {
             SearchEnd::Exhausted => {

@@ -15,10 +15,10 @@ use Rattle.coverage.proofs.alike.tried_alike.Statement.{statement}
 use Rattle.coverage.proofs.alike.tried_alike.Tie as tie
 
 abbrev Inv-loop : tie.InvT-loop
-Inv-loop bytes b scratch place list tried counts tries k kept i₀ i = i ≤ tries
+Inv-loop bytes b scratch place list tried fingerprints tries k own i₀ i = i ≤ tries
 
 abbrev μ-loop : tie.MeasureT-loop
-μ-loop bytes b scratch place list tried counts tries k kept i₀ i = tries - i
+μ-loop bytes b scratch place list tried fingerprints tries k own i₀ i = tries - i
 
 -- the class at position i is one of the first
 among : (c : tie.In-loop Inv-loop μ-loop)

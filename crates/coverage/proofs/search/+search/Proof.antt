@@ -21,6 +21,7 @@ use Rattle.coverage.proofs.Trying.{Tried, tried-none, tried-more, alike
 use Rattle.coverage.proofs.search.search.Reads as search′
 use Rattle.coverage.proofs.search.search.Kinds as search-kinds
 use Rattle.coverage.proofs.search.+search.Lts-search as lts
+use Rattle.coverage.proofs.alike.fingerprint.Reads as fingerprint-reads
 use Rattle.coverage.proofs.alike.tried_alike.Reads as tried-alike-reads
 use Rattle.coverage.proofs.dominance.drop_dominated.Reads as drop-dominated-reads
 use Rattle.coverage.proofs.search.blank.Reads as blank-reads
@@ -60,6 +61,8 @@ claims t = (
   is-candidate-reads.Learnt,
   narrow-reads.Asked,
   narrow-reads.Learnt,
+  fingerprint-reads.Asked,
+  fingerprint-reads.Learnt,
   tried-alike-reads.Asked,
   tried-alike-reads.Learnt,
   search-below t,
@@ -80,11 +83,11 @@ record Behind (M : Model) (s place : ℕ) (chosen₀ chosen next tried : List �
       ≡ remaining M s (take place chosen₀) (getD (M .sigArgs s) place 0) (drop (place + 1) (M .sigArgs s)) k
 
 abbrev Inv-loop : lts.InvT-loop
-Inv-loop bytes b scratch s f place chosen₀ list n c left enough classes next₀ tried₀ counts₀ tries₀ k₀ chosen next tried counts tries k =
+Inv-loop bytes b scratch s f place chosen₀ list n c left enough classes next₀ tried₀ fingerprints₀ tries₀ k₀ chosen next tried fingerprints tries k =
     Behind (modelOf bytes) s place chosen₀ chosen next tried tries k
 
 abbrev μ-loop : lts.MeasureT-loop
-μ-loop bytes b scratch s f place chosen₀ list n c left enough classes next₀ tried₀ counts₀ tries₀ k₀ chosen next tried counts tries k =
+μ-loop bytes b scratch s f place chosen₀ list n c left enough classes next₀ tried₀ fingerprints₀ tries₀ k₀ chosen next tried fingerprints tries k =
     b .classes - k
 
 module _ (t : ℕ) where
@@ -201,9 +204,17 @@ module _ (t : ℕ) where
       let h = bounds i in
       (p, (filling-candidates (p .opened) g, (h .3, (omega (arith, h), omega (arith, filling-few (p .opened) g, l .loop .inv .room)))))
 
+  fingerprint-requires : lts.Need-fingerprint-requires (claims t) (search-at t) search′.Post Inv-loop μ-loop
+  fingerprint-requires c κs =
+      let i = c .before .before .before .before .before in
+      let l = i .before in
+      let p = l .before .before .before .before .before .before .before .before .before .before .before .before .before .pre .1 .0 in
+      let h = bounds i in
+      (p, (filling-methods (p .opened) (thinned l), (h .3, h .1)))
+
   tried-alike-requires : lts.Need-tried-alike-requires (claims t) (search-at t) search′.Post Inv-loop μ-loop
   tried-alike-requires c κs =
-      let i = c .before .before .before .before .before .before .before in
+      let i = c .before .before .before .before .before .before .before .before in
       let l = i .before in
       let p = l .before .before .before .before .before .before .before .before .before .before .before .before .before .pre .1 .0 in
       let h = bounds i in
@@ -212,7 +223,7 @@ module _ (t : ℕ) where
 
   loop-again-2 : lts.Need-loop-again-2 (claims t) (search-at t) search′.Post Inv-loop μ-loop
   loop-again-2 c =
-      let n = c .before .before .before .before .before in
+      let n = c .before .before .before .before .before .before in
       let e = n .before .before in
       let l = e .before .before .before in
       let inv = l .loop .inv in
@@ -236,11 +247,11 @@ module _ (t : ℕ) where
   tries-below c = omega (arith, bounds c, c .before .loop .inv .few)
 
   add-search : lts.Need-add-search (claims t) (search-at t) search′.Post Inv-loop μ-loop
-  add-search c = omega (arith, bounds (c .before .before .before .before .before .before .before .before .before))
+  add-search c = omega (arith, bounds (c .before .before .before .before .before .before .before .before .before .before))
 
   search-requires : lts.Need-search-requires (claims t) (search-at t) search′.Post Inv-loop μ-loop
   search-requires c κs =
-      let n = c .before .before .before .before .before .before .before in
+      let n = c .before .before .before .before .before .before .before .before in
       let l = n .before .before .before .before .before in
       let s = l .before .before .before .before .before .before .before .before .before .before .before .before .before in
       let p = s .pre .1 in
@@ -254,7 +265,7 @@ module _ (t : ℕ) where
 
   -- a search with class k at the next place keeps the places before it, and ends as one with these and k filled
   ended : (c : lts.After-search (claims t) (search-at t) search′.Post Inv-loop μ-loop)
-      → let l = c .before .before .before .before .before .before .before .before .before .before .before .before .before in
+      → let l = c .before .before .before .before .before .before .before .before .before .before .before .before .before .before in
       let a = l .before .before .before .before .before .before .before .before .before .before .before .before .before .args in
       let M = modelOf (a .bytes .now) in
       let after = c .search .last .1 .1 .1 .1 .1 .1 .0 in
@@ -263,7 +274,7 @@ module _ (t : ℕ) where
       × (take (a .place) after ≡ filled)
       × Ends M (a .s) (filled ++ (l .loop .k ∷ [])) (drop (a .place + 1) (M .sigArgs (a .s))) after (c .search .result)
   ended c =
-      let l = c .before .before .before .before .before .before .before .before .before .before .before .before .before in
+      let l = c .before .before .before .before .before .before .before .before .before .before .before .before .before .before in
       let a = l .before .before .before .before .before .before .before .before .before .before .before .before .before .args in
       let chosen = l .loop .chosen in
       let k = l .loop .k in
@@ -280,7 +291,7 @@ module _ (t : ℕ) where
   loop-again-3 : lts.Need-loop-again-3 (claims t) (search-at t) search′.Post Inv-loop μ-loop
   loop-again-3 c =
       let u = c .before .before .before .before in
-      let e = u .before .before .before .before .before .before .before .before .before .before in
+      let e = u .before .before .before .before .before .before .before .before .before .before .before in
       let l = e .before .before .before in
       let inv = l .loop .inv in
       let m = met (e .before) in
@@ -291,7 +302,7 @@ module _ (t : ℕ) where
         few = omega (arith, inv .few);
         same = q .0;
         kept = q .1;
-        room = u .before .before .before .before .before .before .before .before .narrow .ensures .same ∙ inv .room;
+        room = u .before .before .before .before .before .before .before .before .before .narrow .ensures .same ∙ inv .room;
         long = simp length-set (inv .long);
         covered =
             subst (Tried _ _ _ _) (sym (chosen-more (l .loop .tried) (l .loop .tries) (l .loop .k) (omega (arith, tries-below (e .before .before), inv .long))))
@@ -302,7 +313,7 @@ module _ (t : ℕ) where
   returns-2 : lts.Need-returns-2 (claims t) (search-at t) search′.Post Inv-loop μ-loop
   returns-2 c =
       let u = c .before .before .before .before .before in
-      let e = u .before .before .before .before .before .before .before .before .before .before in
+      let e = u .before .before .before .before .before .before .before .before .before .before .before in
       let l = e .before .before .before .loop in
       let m = met (e .before) in
       let q = ended u in (
@@ -356,21 +367,22 @@ pub +search-spec : {M : Type 1} → statement M
     (loop-again t)
     (λ c. sym (c .before .before .before .before .loop .inv .room))
     (narrow-requires t)
+    (fingerprint-requires t)
     (tried-alike-requires t)
     (λ c. omega arith)
     (loop-again-2 t)
-    (λ c. omega (arith, tries-below t (c .before .before .before .before .before .before .before .before .before)))
-    (λ c. tries-below t (c .before .before .before .before .before .before .before .before .before))
-    (λ c. omega (arith, tries-below t (c .before .before .before .before .before .before .before .before .before)))
-    (λ c. tries-below t (c .before .before .before .before .before .before .before .before .before))
-    (λ c. omega (arith, bounds t (c .before .before .before .before .before .before .before .before .before)))
-    (λ c. omega (arith, place-below t (c .before .before .before .before .before .before .before .before .before .before .before .before .before .before .before .before .before .before), c .before .before .before .before .before .before .before .before .before .before .loop .inv .same))
+    (λ c. omega (arith, tries-below t (c .before .before .before .before .before .before .before .before .before .before)))
+    (λ c. tries-below t (c .before .before .before .before .before .before .before .before .before .before))
+    (λ c. omega (arith, tries-below t (c .before .before .before .before .before .before .before .before .before .before)))
+    (λ c. tries-below t (c .before .before .before .before .before .before .before .before .before .before))
+    (λ c. omega (arith, bounds t (c .before .before .before .before .before .before .before .before .before .before)))
+    (λ c. omega (arith, place-below t (c .before .before .before .before .before .before .before .before .before .before .before .before .before .before .before .before .before .before .before), c .before .before .before .before .before .before .before .before .before .before .before .loop .inv .same))
     (add-search t)
-    (λ c. c .before .before .before .before .before .before .narrow .ensures .room)
-    (λ c. sym (length-take-le _ _ (c .before .before .before .before .before .before .before .narrow .ensures .room)))
+    (λ c. c .before .before .before .before .before .before .before .narrow .ensures .room)
+    (λ c. sym (length-take-le _ _ (c .before .before .before .before .before .before .before .before .narrow .ensures .room)))
     (search-requires t)
     (λ c. search needs)
-    (λ c. omega (arith, tries-below t (c .before .before .before .before .before .before .before .before .before .before .before .before .before .before .before .before)))
+    (λ c. omega (arith, tries-below t (c .before .before .before .before .before .before .before .before .before .before .before .before .before .before .before .before .before)))
     (λ c. omega arith)
     (loop-again-3 t)
     (λ c. search needs)
