@@ -1,6 +1,6 @@
 //! The bundles that are measured.
 
-use builder::{Parts, Random, ARG, NEW, SEND};
+use builder::{Method, Parts, Random, ARG, NEW, SEND};
 
 /// 128 concrete classes in a tree: two children to a class, down to depth 6.
 fn tree() -> Parts {
@@ -217,6 +217,40 @@ pub fn department() -> Vec<u8> {
             *class = random.below(20) as u8;
         }
         parts.signature(function, arguments, 0);
+    }
+    parts.bytes()
+}
+
+/// The signature that was found to take longest. All 512 methods apply to all tuples of the 119 concrete classes, and none of
+/// them dominates another, since eight classes above the rest are not under one another; one method leads. Only the last
+/// seven tell classes apart, by what they declare, so that two classes are compared by nearly all before they differ.
+/// `broken`: the last body, which is judged last, has a value that its method's result class does not hold.
+pub fn slowest(broken: bool) -> Vec<u8> {
+    let mut parts = Parts::default();
+    parts.class(false, &[]);
+    for _ in 0..8 {
+        parts.class(false, &[0]);
+    }
+    let leader = parts.class(true, &[1, 2, 3, 4, 5, 6, 7, 8]);
+    let marks = [0; 7].map(|_| parts.class(true, &[leader]));
+    // A set of marks of its own for each other class.
+    for set in (0..128).filter(|set: &u8| set.count_ones() > 1).take(111) {
+        let parents: Vec<u8> = (0..7).filter(|bit| set >> bit & 1 == 1).map(|bit| marks[bit]).collect();
+        parts.class(true, &parents);
+    }
+    let function = parts.function(3);
+    parts.signature(function, [0; 3], 0);
+    let body = [[NEW, leader]];
+    for number in 0..511 {
+        if number == 504 {
+            parts.method(function, [leader; 3], 0, &body);
+        }
+        let specialisers = [number / 64, number / 8 % 8, number % 8].map(|digit| 1 + digit as u8);
+        let declared = if number < 504 { 0 } else { marks[number - 504] };
+        parts.methods.push(Method { function, specialisers, declared: [declared; 3], result: 0, body: body.to_vec() });
+    }
+    if broken {
+        parts.methods[511].result = marks[0];
     }
     parts.bytes()
 }
