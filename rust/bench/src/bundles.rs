@@ -1,6 +1,6 @@
 //! The bundles that are measured.
 
-use builder::{Method, Parts, Random, ARG, NEW, SEND};
+use builder::{Parts, Random, ARG, NEW, SEND};
 
 /// 128 concrete classes in a tree: two children to a class, down to depth 6.
 fn tree() -> Parts {
@@ -222,9 +222,10 @@ pub fn department() -> Vec<u8> {
 }
 
 /// The signature that was found to take longest. All 512 methods apply to all tuples of the 119 concrete classes, and none of
-/// them dominates another, since eight classes above the rest are not under one another; one method leads. Only the last
-/// seven tell classes apart, by what they declare, so that two classes are compared by nearly all before they differ.
-/// `broken`: the last body, which is judged last, has a value that its method's result class does not hold.
+/// them dominates another, since eight classes above the rest are not under one another; one method leads. Every class is
+/// told from every other, by declared classes near the end of the list alone, and all share one fingerprint, so that each
+/// two are compared by most methods before they differ. `broken`: the last body, which is judged last, has a value that its
+/// method's result class does not hold.
 pub fn slowest(broken: bool) -> Vec<u8> {
     let mut parts = Parts::default();
     parts.class(false, &[]);
@@ -241,13 +242,18 @@ pub fn slowest(broken: bool) -> Vec<u8> {
     let function = parts.function(3);
     parts.signature(function, [0; 3], 0);
     let body = [[NEW, leader]];
+    parts.method(function, [leader; 3], 0, &body);
     for number in 0..511 {
-        if number == 504 {
-            parts.method(function, [leader; 3], 0, &body);
-        }
         let specialisers = [number / 64, number / 8 % 8, number % 8].map(|digit| 1 + digit as u8);
-        let declared = if number < 504 { 0 } else { marks[number - 504] };
-        parts.methods.push(Method { function, specialisers, declared: [declared; 3], result: 0, body: body.to_vec() });
+        parts.method(function, specialisers, 0, &body);
+    }
+    // Eight methods so far apart declare a mark, wherever the first of them stands: the powers of the fingerprint's factor
+    // that they add to it make 0 modulo 2^32.
+    const APART: [usize; 8] = [0, 2, 6, 17, 34, 44, 45, 55];
+    for (mark, start) in marks.into_iter().zip([0, 5, 18, 23, 36, 41, 59]) {
+        for number in APART.map(|step| 510 - start - step) {
+            parts.methods[number].declared = [mark; 3];
+        }
     }
     if broken {
         parts.methods[511].result = marks[0];
