@@ -135,8 +135,8 @@ pub(crate) fn fingerprint(
     answers
 }
 
-// Whether one of the first tried classes is found alike to class k. Alike classes have the same fingerprint, so only those are compared that have that of
-// k; it is promised that a class found alike is, and not that each alike one is found.
+// Whether one of the first tried classes is found alike to class k. Alike classes have the same fingerprint, so only the
+// first with that of k is compared, however many share it; it is promised that a class found alike is, and not that each alike one is found.
 pub(crate) fn tried_alike(
     bytes: &[u8],
     b: Bundle,
@@ -165,9 +165,7 @@ pub(crate) fn tried_alike(
         if fingerprints[at] != own {
             continue;
         }
-        if is_alike(bytes, b, scratch, place, list, tried[at], k) {
-            return true;
-        }
+        return is_alike(bytes, b, scratch, place, list, tried[at], k);
     }
     false
 }

@@ -40,7 +40,7 @@ is-alike-requires c κs =
 
 returns : tie.Need-returns Inv-loop μ-loop
 unfolding triedAlike
-returns c e = any-from _ _ (among (c .before .before .before .before .before)) (sym (c .before .is-alike .ensures) ∙ c .if2 .taken)
+returns c e = any-from _ _ (among (c .before .before .before .before)) (sym (c .is-alike .ensures) ∙ e)
 
 pub tried-alike-spec : {M : Type 1} → statement M
 tried-alike-spec =
@@ -58,6 +58,4 @@ tried-alike-spec =
     (λ c. omega arith)
     is-alike-requires
     returns
-    (λ c. omega arith)
-    (λ c. omega arith)
     (λ c e. absurd (false≢true e)))
