@@ -3,8 +3,8 @@ use crate::covered::covers;
 use crate::refusal::Refusal;
 use crate::send::all_concrete;
 use crate::send::classes_of;
-use coverage::judge::Judgement;
-use coverage::judge::judge;
+use coverage_rule::judge::Judgement;
+use coverage_rule::judge::judge;
 use dispatch::send::Send;
 use dispatch::send::Tuple;
 use layout::bundle::Bundle;
@@ -19,7 +19,7 @@ ghost use Rattle.rules.specs.Calls.{witnessIn};
 ghost use Rattle.dispatch.specs.Prepared.{Prepared};
 ghost use Rattle.dispatch.specs.Places.{Arguments};
 ghost use Rattle.dispatch.specs.Send.{classesOf, tupleOf, sendValues};
-ghost use Rattle.coverage.specs.Judgements.{judgementOf};
+ghost use Rattle.coverage_rule.specs.Judgements.{judgementOf};
 ghost use Rattle.calls.specs.Said.{coverageValues, ruleSaid, witnessSaid};
 
 // Numbers 10 to 13: the signature, the send, and the method or methods that the reason names.

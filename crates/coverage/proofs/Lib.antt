@@ -1,6 +1,9 @@
-pub mod Judging
-pub mod Dominating
+pub mod Leading
+pub mod Marks
 pub mod Narrowing
+pub mod Orders
+pub mod Rows
 pub mod Searching
 pub mod Trying
 pub mod Violations
+pub mod Words

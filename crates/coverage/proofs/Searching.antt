@@ -16,8 +16,8 @@ use Rattle.rules.specs.Coverage.{judge, failing, concreteUnder, prefixed, tuple
 use Rattle.rules.proofs.Lists.{test, keep-hit, keep-miss, first-hit, first-miss, first-append-none, first-append-some, length-upto, getD-upto}
 use Rattle.coverage.specs.declared.search.SearchEnd.{SearchEnd}
 use Rattle.coverage.specs.declared.search.SearchEnd.the-variants.{Exhausted, Stopped}
-use Rattle.coverage.specs.declared.judge.Judgement.{Judgement}
-use Rattle.coverage.specs.Judgements.{judgementOf}
+use Rattle.coverage_rule.specs.declared.judge.Judgement.{Judgement}
+use Rattle.coverage_rule.specs.Judgements.{judgementOf}
 use Rattle.coverage.specs.Search.{candidateClass, brokenCompletion, Ends}
 
 first-map : {A B : Type 0} (p : B → Bool) (f : A → B) (xs : List A) → first p (map f xs) ≡ Option·map f (first (λ x. p (f x)) xs)

@@ -13,7 +13,8 @@ use Rattle.rules.specs.Alike.{implies}
 use Rattle.rules.proofs.Lists.{any-mem, upto-below, none-lowest, some-lowest, lowest-some}
 use Rattle.rules.proofs.Coverage.{none-of}
 use Rattle.rules.proofs.Alike.{implied-covered}
-use Rattle.coverage.specs.Search.{brokenCompletion, implied, Violation, violation, violationIn, violationAt, firstViolation}
+use Rattle.coverage_rule.specs.Implied.{implied}
+use Rattle.coverage.specs.Search.{brokenCompletion, Violation, violation, violationIn, violationAt, firstViolation}
 
 -- what a search with no place filled finds is the signature's
 pub tuple-none : (M : Model) (s : ℕ) → brokenCompletion M s [] (M .sigArgs s) ≡ none → none ≡ violationIn M s

@@ -1,3 +1,2 @@
-pub mod Judgements
-pub mod Dominance
+pub mod Sets
 pub mod Search

@@ -5,61 +5,43 @@ use mathlib.Core.Path.{_≡_}
 use mathlib.Core.Bool.{Bool, true, _&&_}
 use mathlib.Core.List.{List, _∷_, _++_}
 use mathlib.Core.Option.{Option, none, some, Option·map}
-use lib.Dec.{ltb}
-use lib.ListN.{length, take, getD}
-use Rattle.rules.specs.Bounded.{upto, any, first}
+use lib.ListN.{length, take}
+use Rattle.rules.specs.Bounded.{first}
 use Rattle.rules.specs.Layout.{padded}
 use Rattle.rules.specs.Model.{Model, present}
 use Rattle.rules.specs.Subclass.{subclass}
-use Rattle.rules.specs.Lookup.{applicableSoFar}
+use Rattle.rules.specs.Lookup.{left}
 use Rattle.rules.specs.Coverage.{Judgement, judge, failing, concreteClass, tuples, brokenTuple, brokenSignature}
-use Rattle.rules.specs.Alike.{alikeAt, implies}
 use Rattle.dispatch.specs.Send.{sendValues}
 use Rattle.coverage.specs.declared.search.SearchEnd.{SearchEnd}
 use Rattle.coverage.specs.declared.search.SearchEnd.the-variants.{Exhausted, Stopped}
 use Rattle.coverage.specs.declared.search.Coverage as coverage-type
 use Rattle.coverage.specs.declared.search.Coverage.the-variants.{Covered, Broken}
-use Rattle.coverage.specs.Judgements.{judgementOf}
-use Rattle.coverage.specs.Dominance.{Enough}
+use Rattle.coverage_rule.specs.Judgements.{judgementOf}
+use Rattle.coverage.specs.Sets.{inSet, methodAt}
 
 -- k is a class to try at a place where the signature has class c
 abbrev pub candidateClass : Model → ℕ → ℕ → Bool
 candidateClass M c k = concreteClass M k && subclass M k c
 
--- method m admits class k at a place: its specialiser there is above it
-abbrev pub admits : Model → ℕ → ℕ → ℕ → Bool
-admits M place k m = subclass M k (getD (M .specialisers m) place 0)
-
--- m is a method of the bundle
-abbrev pub isMethod : Model → ℕ → Bool
-isMethod M m = ltb m (M .methods)
-
--- a class that was tried at a place is alike to class k there
-unfoldable pub triedAlike : Model → ℕ → List ℕ → List ℕ → ℕ → Bool
-triedAlike M place ms tried k = any (λ a. alikeAt M place ms a k) tried
-
 -- the first of the tuples under the classes `rest` that complete the filled places to a broken tuple
 unfoldable pub brokenCompletion : Model → ℕ → List ℕ → List ℕ → Option (List ℕ)
 brokenCompletion M s filled rest = first (λ t. failing (judge M s (filled ++ t))) (tuples M rest)
 
--- The first places of a tuple of signature s, whose function is f, are filled; the list holds enough of the methods that are left.
-pub record Filling (M : Model) (s f place : ℕ) (chosen list : List ℕ) : Type 0 where
+-- The first places of a tuple of signature s, whose function is f, are filled; the set holds the methods that are left.
+pub record Filling (M : Model) (s f place : ℕ) (chosen order set : List ℕ) : Type 0 where
   pub signature : s < M .signatures
   pub ofSignature : f ≡ M .sigFunction s
   pub arity : length chosen ≡ M .arity f
   pub within : place ≤ length chosen
   pub classes : present M (take place chosen) ≡ true
-  pub methods : Enough M place (applicableSoFar M f (take place chosen)) list
+  pub methods : (i : ℕ) → i < M .methods → inSet set 0 i ≡ left M f (take place chosen) (methodAt order i)
 
 -- A search that leaves the tuple in `after` ends: no completion is broken, or that one is, with its judgement.
 abbrev pub Ends : Model → ℕ → List ℕ → List ℕ → List ℕ → SearchEnd → Type 0
 Ends M s filled rest after Exhausted = brokenCompletion M s filled rest ≡ none
 Ends M s filled rest after (Stopped j) =
     (t : List ℕ) × (brokenCompletion M s filled rest ≡ some t) × (after ≡ filled ++ t) × (judgementOf j ≡ judge M s after)
-
--- an earlier signature implies signature s
-unfoldable pub implied : Model → ℕ → Bool
-implied M s = any (λ e. implies M e s) (upto s)
 
 -- a broken tuple of a signature as a send: the function, and as many places as the layout has; and what the rule says of it
 pub record Violation : Type 0 where

@@ -1,6 +1,7 @@
-// Coverage: the coverage rule for one tuple of a signature, and the search for a tuple that breaks it.
+// Coverage: the search for a tuple that breaks the coverage rule.
 mod alike;
-mod dominance;
-mod implied;
-pub mod judge;
+mod leader;
+mod order;
 pub mod search;
+mod sets;
+mod table;

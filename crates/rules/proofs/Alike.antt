@@ -12,7 +12,7 @@ use borrow.Author.Tests.{eqb-true, lt-ltb}
 use Rattle.rules.specs.Bounded.{upto, every, keep}
 use Rattle.rules.specs.Model.{Model, Wellformed, present}
 use Rattle.rules.specs.Subclass.{subclass, under}
-use Rattle.rules.specs.Lookup.{Found, found, missing, ambiguous, applies, applicable, applicableSoFar, select, lookup}
+use Rattle.rules.specs.Lookup.{Found, found, missing, ambiguous, applies, applicable, left, applicableSoFar, select, lookup}
 use Rattle.rules.specs.Coverage.{covers, declaredHold, judgeFound, judge, failing, concreteClass, brokenTuple}
 use Rattle.rules.specs.Alike.{aboveAlike, treatsAlike, alikeAt, Decides, implies}
 use Rattle.rules.proofs.Lists.{and-left, and-right, every-mem, every-from, keep-mem, keep-agree, keep-keep, matching-append, matching-swap}
@@ -35,12 +35,12 @@ repeated false b c d e = refl
 
 -- the methods left, once some places are filled, decide
 pub left-decides : (M : Model) (f : ℕ) (filled : List ℕ) → Decides M f filled (applicableSoFar M f filled)
-unfolding lookup applicable applicableSoFar applies under
+unfolding lookup applicable applicableSoFar left applies under
 left-decides M f filled u =
     ap (select M)
-    (keep-agree (λ m. eqb (M .function m) f && whole m) (λ m. eqb (M .function m) f && begun m && whole m) (upto (M .methods))
+    (keep-agree (λ m. eqb (M .function m) f && whole m) (λ m. left M f filled m && whole m) (upto (M .methods))
     (λ m h. repeated (eqb (M .function m) f) (begun m) (whole m) _ (matching-append (subclass M) filled u (M .specialisers m)))
-    ∙ sym (keep-keep (λ m. eqb (M .function m) f && begun m) whole (upto (M .methods))))
+    ∙ sym (keep-keep (left M f filled) whole (upto (M .methods))))
   where
     begun : ℕ → Bool
     begun m = under M filled (take (length filled) (M .specialisers m))

@@ -1,5 +1,5 @@
 -- Lookup: what is found applies, leads and is the only one that does; none is found exactly when none applies; an ambiguous lookup has two rivals to
--- name; narrowing the methods place by place comes to the same list as filtering at once.
+-- name; narrowing the methods place by place leaves those that apply.
 -- Assumes nothing.
 use Prim.Native.Nat.{ℕ, _<_, _≤_}
 use native.Mathlib.Omega.{arith}
@@ -14,11 +14,11 @@ use lib.Dec.{eqb}
 use lib.ListN.{length, getD, take}
 use lib.Seq.{take-all}
 use borrow.Author.Tests.{eqb-true, eq-eqb, not-true}
-use Rattle.rules.specs.Bounded.{upto, keep, first, matching}
+use Rattle.rules.specs.Bounded.{upto, first, matching}
 use Rattle.rules.specs.Model.{Model, Wellformed}
 use Rattle.rules.specs.Subclass.{subclass, under}
-use Rattle.rules.specs.Lookup.{Found, found, missing, ambiguous, applies, applicable, applicableSoFar, asSpecific, leads, unbeaten, rivals, leaderOr, select, lookup}
-use Rattle.rules.proofs.Lists.{test, and-left, and-right, and-both, or-cases, or-left, or-right, every-mem, every-from, keep-mem, keep-in, keep-agree, keep-keep, matching-length, matching-snoc, first-mem, first-none, upto-below, below-upto, Rising, rising-upto, rising-keep}
+use Rattle.rules.specs.Lookup.{Found, found, missing, ambiguous, applies, applicable, left, asSpecific, leads, unbeaten, rivals, leaderOr, select, lookup}
+use Rattle.rules.proofs.Lists.{test, and-left, and-right, and-both, or-cases, or-left, or-right, every-mem, every-from, keep-mem, keep-in, matching-length, matching-snoc, first-mem, first-none, upto-below, below-upto, Rising, rising-upto, rising-keep}
 use Rattle.rules.proofs.Order.{minimal}
 use Rattle.rules.proofs.Subclass.{under-itself, under-trans, under-antisym}
 
@@ -315,45 +315,25 @@ candidate-places M w f args m c =
     ∙ w .specialiser-places m (c .bound)
     ∙ ap (M .arity) (c .ofFunction)
 
--- Narrowing. With no place filled all methods of the function are left; each place filled keeps those whose specialiser there is above the class; with
--- all places filled the applicable methods are left.
-pub narrow-none : (M : Model) (f : ℕ) → applicableSoFar M f [] ≡ keep (λ m. eqb (M .function m) f) (upto (M .methods))
-unfolding applicableSoFar under matching
-narrow-none M f = keep-agree (λ m. eqb (M .function m) f && true) (λ m. eqb (M .function m) f) (upto (M .methods)) (λ m h. and-true (eqb (M .function m) f))
+-- Narrowing. With no place filled every method of the function is left; each place filled leaves those whose specialiser there is above the class; with all
+-- places filled those are left that apply.
+pub left-none : (M : Model) (f m : ℕ) → left M f [] m ≡ eqb (M .function m) f
+unfolding left under matching
+left-none M f m = and-true (eqb (M .function m) f)
 
-pub narrow-place : (M : Model) (f : ℕ) (chosen : List ℕ) (a : ℕ)
-    → ((m : ℕ) → m < M .methods → M .function m ≡ f → length chosen < length (M .specialisers m))
-    → keep (λ m. subclass M a (getD (M .specialisers m) (length chosen) 0)) (applicableSoFar M f chosen) ≡ applicableSoFar M f (chosen ++ (a ∷ []))
-unfolding applicableSoFar under
-narrow-place M f chosen a long =
-    keep-keep
-    (λ m. eqb (M .function m) f && under M chosen (take (length chosen) (M .specialisers m)))
-    (λ m. subclass M a (getD (M .specialisers m) (length chosen) 0))
-    (upto (M .methods))
-    ∙ keep-agree
-    (λ m. eqb (M .function m) f && under M chosen (take (length chosen) (M .specialisers m)) && subclass M a (getD (M .specialisers m) (length chosen) 0))
-    (λ m. eqb (M .function m) f && under M (chosen ++ (a ∷ [])) (take (length (chosen ++ (a ∷ []))) (M .specialisers m)))
-    (upto (M .methods))
-    (λ m h. go m (upto-below (M .methods) h) (test (eqb (M .function m) f)))
+pub left-more : (M : Model) (f : ℕ) (filled : List ℕ) (a m : ℕ) → (M .function m ≡ f → length filled < length (M .specialisers m))
+    → (left M f filled m && subclass M a (getD (M .specialisers m) (length filled) 0)) ≡ left M f (filled ++ (a ∷ [])) m
+unfolding left under
+left-more M f filled a m long = go (test (eqb (M .function m) f))
   where
-    go : (m : ℕ) → m < M .methods → (eqb (M .function m) f ≡ true) ⊎ (eqb (M .function m) f ≡ false)
-        → (eqb (M .function m) f && under M chosen (take (length chosen) (M .specialisers m)) && subclass M a (getD (M .specialisers m) (length chosen) 0))
-        ≡ (eqb (M .function m) f && under M (chosen ++ (a ∷ [])) (take (length (chosen ++ (a ∷ []))) (M .specialisers m)))
-    go m h (inl q) = rw q (sym (matching-snoc (subclass M) chosen a (M .specialisers m) 0 (long m h (eqb-true (M .function m) f q))))
-    go m h (inr q) = rw q
+    go : (eqb (M .function m) f ≡ true) ⊎ (eqb (M .function m) f ≡ false)
+        → (eqb (M .function m) f && under M filled (take (length filled) (M .specialisers m)) && subclass M a (getD (M .specialisers m) (length filled) 0))
+        ≡ (eqb (M .function m) f && under M (filled ++ (a ∷ [])) (take (length (filled ++ (a ∷ []))) (M .specialisers m)))
+    go (inl q) = rw q (sym (matching-snoc (subclass M) filled a (M .specialisers m) 0 (long (eqb-true (M .function m) f q))))
+    go (inr q) = rw q
 
-pub narrow-all : (M : Model) → Wellformed M → (f : ℕ) (args : List ℕ) → length args ≡ M .arity f → applicableSoFar M f args ≡ applicable M f args
-unfolding applicableSoFar applicable applies
-narrow-all M w f args e =
-    keep-agree
-    (λ m. eqb (M .function m) f && under M args (take (length args) (M .specialisers m)))
-    (λ m. eqb (M .function m) f && under M args (M .specialisers m))
-    (upto (M .methods))
-    (λ m h. go m (upto-below (M .methods) h) (test (eqb (M .function m) f)))
-  where
-    go : (m : ℕ) → m < M .methods → (eqb (M .function m) f ≡ true) ⊎ (eqb (M .function m) f ≡ false)
-        → (eqb (M .function m) f && under M args (take (length args) (M .specialisers m))) ≡ (eqb (M .function m) f && under M args (M .specialisers m))
-    go m h (inl q) =
-        let len : length (M .specialisers m) ≡ length args = w .specialiser-places m h ∙ ap (M .arity) (eqb-true (M .function m) f q) ∙ sym e in
-        rw (take-all (length args) (M .specialisers m) (le-of-eq len))
-    go m h (inr q) = rw q
+pub candidate-left : (M : Model) → Wellformed M → (f : ℕ) (args : List ℕ) (m : ℕ) → length args ≡ M .arity f → Candidate M f args m → left M f args m ≡ true
+unfolding left applies
+candidate-left M w f args m e c =
+    let long : length (M .specialisers m) ≡ length args = w .specialiser-places m (c .bound) ∙ ap (M .arity) (c .ofFunction) ∙ sym e in
+    rw (eq-eqb (M .function m) f (c .ofFunction), take-all (length args) (M .specialisers m) (le-of-eq long)) (c .applying)

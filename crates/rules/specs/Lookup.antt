@@ -24,10 +24,13 @@ applies M args m = under M args (M .specialisers m)
 unfoldable pub applicable : Model → ℕ → List ℕ → List ℕ
 applicable M f args = keep (λ m. eqb (M .function m) f && applies M args m) (upto (M .methods))
 
--- the same for the first arguments alone: what is left of a function's methods once some of the places are filled
+-- Once the first places of a tuple are filled, a method of the function is left when its specialisers there are above their classes.
+unfoldable pub left : Model → ℕ → List ℕ → ℕ → Bool
+left M f filled m = eqb (M .function m) f && under M filled (take (length filled) (M .specialisers m))
+
+-- the methods left, rising
 unfoldable pub applicableSoFar : Model → ℕ → List ℕ → List ℕ
-applicableSoFar M f chosen =
-    keep (λ m. eqb (M .function m) f && under M chosen (take (length chosen) (M .specialisers m))) (upto (M .methods))
+applicableSoFar M f filled = keep (left M f filled) (upto (M .methods))
 
 -- m is at least as specific as n: place by place its specialiser is under that of n (M 5.2)
 unfoldable pub asSpecific : Model → ℕ → ℕ → Bool

@@ -221,43 +221,57 @@ pub fn department() -> Vec<u8> {
     parts.bytes()
 }
 
-/// The signature that was found to take longest. All 512 methods apply to all tuples of the 119 concrete classes, and none of
-/// them dominates another, since eight classes above the rest are not under one another; one method leads. Every class is
-/// told from every other, by declared classes near the end of the list alone, and all share one fingerprint, so that each
-/// two are compared by most methods before they differ. `broken`: the last body, which is judged last, has a value that its
-/// method's result class does not hold.
-pub fn slowest(broken: bool) -> Vec<u8> {
+/// The classes, functions and methods for which signatures were found to take longest. All classes but class 0 are concrete and
+/// under class 1. Eight methods of the first function apply to each of their tuples, and one leads. Each of the other seven
+/// declares a class of its own, so that their declared classes tell all classes apart at every place; they find no tuple, so
+/// nothing is broken by it. Heavier methods of another function come before the eight in the order, so that all words of a
+/// set are gone through. Class 127 is under every class.
+fn told_apart() -> Parts {
     let mut parts = Parts::default();
     parts.class(false, &[]);
-    for _ in 0..8 {
-        parts.class(false, &[0]);
-    }
-    let leader = parts.class(true, &[1, 2, 3, 4, 5, 6, 7, 8]);
-    let marks = [0; 7].map(|_| parts.class(true, &[leader]));
-    // A set of marks of its own for each other class.
-    for set in (0..128).filter(|set: &u8| set.count_ones() > 1).take(111) {
-        let parents: Vec<u8> = (0..7).filter(|bit| set >> bit & 1 == 1).map(|bit| marks[bit]).collect();
-        parts.class(true, &parents);
+    // A class for each set of the seven but one, under the classes of the sets that lack one element of it.
+    let mut of_set = [None; 128];
+    for set in (0..128usize).filter(|&set| set != 126) {
+        let less = (0..7).filter(|bit| set >> bit & 1 == 1).filter_map(|bit| of_set[set - (1 << bit)]);
+        let mut parents: Vec<u8> = if set == 0 { vec![0] } else { less.collect() };
+        parents.sort_unstable();
+        of_set[set] = Some(parts.class(true, &parents));
     }
     let function = parts.function(3);
-    parts.signature(function, [0; 3], 0);
-    let body = [[NEW, leader]];
-    parts.method(function, [leader; 3], 0, &body);
-    for number in 0..511 {
-        let specialisers = [number / 64, number / 8 % 8, number % 8].map(|digit| 1 + digit as u8);
-        parts.method(function, specialisers, 0, &body);
+    let other = parts.function(3);
+    let body = [[NEW, 127]];
+    for number in 0..8 {
+        parts.method(function, [number / 4, number / 2 % 2, number % 2], 127, &body);
     }
-    // Eight methods so far apart declare a mark, wherever the first of them stands: the powers of the fingerprint's factor
-    // that they add to it make 0 modulo 2^32.
-    const APART: [usize; 8] = [0, 2, 6, 17, 34, 44, 45, 55];
-    for (mark, start) in marks.into_iter().zip([0, 5, 18, 23, 36, 41, 59]) {
-        for number in APART.map(|step| 510 - start - step) {
-            parts.methods[number].declared = [mark; 3];
-        }
+    for number in 0..7 {
+        parts.methods[number].declared = [of_set[1 << number].expect("a set of one element has a class"); 3];
     }
-    if broken {
-        parts.methods[511].result = marks[0];
+    for number in 0..504 {
+        parts.method(other, [127, (number / 128) as u8, (number % 128) as u8], 127, &body);
     }
+    parts
+}
+
+/// The slowest bundle found with so many signatures, up to 256: each covers all tuples, and none implies a later one.
+pub fn slowest(signatures: usize) -> Vec<u8> {
+    let mut parts = told_apart();
+    for number in 0..signatures {
+        parts.signature(0, [1 - (number % 2) as u8, 1, 1], (number / 2) as u8);
+    }
+    parts.bytes()
+}
+
+/// As slow with 256 signatures, and the last tuple of the last one is broken: the method that it finds has a result class that the
+/// other signatures' result classes are above, and the last one's is not.
+pub fn slowest_broken() -> Vec<u8> {
+    let mut parts = told_apart();
+    for number in 0..255 {
+        let arguments = [[1, 1, 1], [0, 1, 1], [0, 0, 1], [0, 0, 0]][number % 4];
+        parts.signature(0, arguments, (number / 4) as u8);
+    }
+    parts.signature(0, [0; 3], 127);
+    parts.methods.pop();
+    parts.method(0, [127; 3], 64, &[[NEW, 127]]);
     parts.bytes()
 }
 

@@ -1,7 +1,7 @@
 -- `calls::witness::rule_answer` meets its contract, case by case.
 -- Assumes nothing.
 use borrow.Author.Needs.{needs}
-use Rattle.coverage.specs.Judgements.{judgementOf}
+use Rattle.coverage_rule.specs.Judgements.{judgementOf}
 use Rattle.calls.proofs.witness.rule_answer.Statement.{statement}
 use Rattle.calls.proofs.witness.rule_answer.Tie as tie
 
