@@ -98,6 +98,12 @@ SAMPLES = {
     "no-method": bundle(ALONE, [0], [(0, [], 0)]),
     # Two signatures have no method, and the one body that there is ends with two values: the lower signature is named.
     "three-faults": bundle(ALONE, [0, 0, 0], [(0, [], 0), (1, [], 0)], [(2, [], [], 0, [(NEW, 0), (NEW, 0)])]),
+    # Three broken tuples: (1, 3) by 12 is the first; (2, 1) by 10 would be if the second place turned slowest, or the numbers were tried for all tuples
+    # in turn; (3, 2) by 11, between the two lowest methods, is the last.
+    "several-broken": bundle(
+        [(ABSTRACT, [])] + [(CONCRETE, [0])] * 3, [2], [(0, [0, 0], 0)],
+        [(0, args, declared, 0, [(NEW, 1)]) for args, declared in [
+            ([3, 0], [3, 0]), ([0, 2], [0, 2]), ([1, 1], [1, 1]), ([1, 3], [1, 1]), ([2, 3], [2, 3])]]),
 }
 
 
@@ -128,7 +134,7 @@ FURTHER = {
 }
 
 # What each sample is, and the lines that the listing program has to print for it. They are written down from the rules and not worked out by any
-# program. No refused sample has a second broken tuple, so the one that is named is determined.
+# program.
 SHOWN = {
     "chart-3": (
         "refused by 11: two methods apply to (2, 4) and neither leads",
@@ -220,6 +226,9 @@ SHOWN = {
     "declared-apart": (
         "refused by 12: of two classes that the specialiser takes, the declared class does not hold the higher",
         ["classes 4 functions 1 signatures 1 methods 1", "refused 12 signature 0 send 0 3 method 0"]),
+    "several-broken": (
+        "refused by 12: the first of three broken tuples, the leftmost argument turning slowest",
+        ["classes 4 functions 1 signatures 1 methods 5", "refused 12 signature 0 send 0 1 3 method 3"]),
     "wide-result": (
         "refused by 13: the method's result class is not under the signature's",
         ["classes 2 functions 1 signatures 1 methods 1", "refused 13 signature 0 send 0 method 0"]),

@@ -168,8 +168,8 @@ uint8_t curiumtoad_send_type(const uint8_t *bundle, size_t size, uint8_t *scratc
                              uint8_t *row, size_t row_size,
                              uint64_t function, uint64_t a0, uint64_t a1, uint64_t a2, uint64_t *values);
 
-/* The check of the whole bundle. 0: accepted. Else 1 to 17, 19: the lowest broken signature with a broken tuple of it, or with none the lowest broken
- * method and its first broken instruction. */
+/* The check of the whole bundle. 0: accepted. Else 1 to 17, 19: the lowest broken signature with its first broken tuple, by class
+ * numbers with the leftmost argument turning slowest, or with none the lowest broken method and its first broken instruction. */
 uint8_t curiumtoad_check(const uint8_t *bundle, size_t size, uint8_t *scratch, size_t scratch_size, uint64_t *values);
 
 /* The coverage rule for one signature and a tuple of concrete classes that it covers. 0: it holds. Else 1 to 13, 18, 19. */

@@ -2,4 +2,3 @@ pub mod Answers
 pub mod Send
 pub mod Covered
 pub mod Said
-pub mod Checked

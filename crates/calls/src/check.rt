@@ -10,10 +10,9 @@ use typing::methods::Bodies;
 use typing::methods::type_bodies;
 ghost use mathlib.Core.Path.{_≡_};
 ghost use Rattle.rules.specs.Model.{modelOf};
-ghost use Rattle.rules.specs.Coverage.{bodyVerdict, brokenMethod};
+ghost use Rattle.rules.specs.Coverage.{bodyVerdict, brokenMethod, verdict};
 ghost use Rattle.dispatch.specs.Prepared.{Prepared};
 ghost use Rattle.calls.specs.Said.{ruleSaid, verdictSaid};
-ghost use Rattle.calls.specs.Checked.{CheckedIn};
 
 // Numbers 14 to 17: the method and its first broken instruction.
 pub struct BodyFinding {
@@ -64,10 +63,10 @@ fn on_tuple(answer: RuleAnswer) -> Verdict
     }
 }
 
-// The verdict: the lowest broken signature with a broken tuple of it, or with none the lowest broken method with its first broken instruction.
+// The verdict: the lowest broken signature with its first broken tuple, or with none the lowest broken method with its first broken instruction.
 pub fn check_in(bundle: &[u8], b: Bundle, scratch: &[u8]) -> Verdict
     requires { ⌜ Prepared (now bundle) b (now scratch) ⌝ }
-    ensures { λ r. ⌜ CheckedIn (modelOf (now (bundle .entry))) r ⌝ }
+    ensures { λ r. ⌜ verdictSaid r ≡ verdict (modelOf (now (bundle .entry))) ⌝ }
 {
     match broken_signature(bundle, b, scratch) {
         Coverage::Covered => on_bodies(bundle, b, scratch),

@@ -2,8 +2,8 @@
 -- Assumes nothing.
 use Prim.Native.Nat.{ℕ, _≤_, _<_}
 use native.Mathlib.Omega.{arith}
-use mathlib.Core.Path.{_≡_, refl, sym, ap, subst, _∙_}
-use mathlib.Core.Bool.{Bool, true, false, Bool·beq, _&&_}
+use mathlib.Core.Path.{_≡_, sym, ap, _∙_}
+use mathlib.Core.Bool.{Bool, true, false, Bool·beq}
 use mathlib.Core.List.{List, List·Memᴰ}
 use lib.ListN.{length, getD, take}
 use lib.Seq.{take-length}
@@ -11,10 +11,10 @@ use Rattle.rules.specs.Bounded.{upto}
 use Rattle.rules.specs.Layout.{places, maxMethods}
 use Rattle.rules.specs.Model.{Model, Wellformed}
 use Rattle.rules.specs.Subclass.{subclass, under}
-use Rattle.rules.specs.Lookup.{found, applies, left, applicableSoFar, asSpecific, lookup}
+use Rattle.rules.specs.Lookup.{found, left, applicableSoFar, asSpecific, lookup}
 use Rattle.rules.specs.Alike.{aboveAlike, treatsAlike, alikeAt}
 use Rattle.rules.proofs.Lists.{and-both, every-from, keep-mem, upto-below, matching-from}
-use Rattle.rules.proofs.Lookup.{Candidate, Leader, leader-lookup, candidate-left}
+use Rattle.rules.proofs.Lookup.{Candidate, leader-lookup, candidate-left}
 use Rattle.dispatch.proofs.Asked.{class-below}
 use Rattle.coverage.specs.Sets.{inSet, rowAt, methodAt, classOf, Ordered, Tabled, Tables, AboveAll, AlikeIn}
 use Rattle.coverage.specs.Search.{Filling}

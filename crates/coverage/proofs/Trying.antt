@@ -12,7 +12,7 @@ use Rattle.rules.specs.Bounded.{every, first}
 use Rattle.rules.specs.Model.{Model, present}
 use Rattle.rules.specs.Lookup.{applicableSoFar}
 use Rattle.rules.specs.Coverage.{judge, failing, tuples}
-use Rattle.rules.specs.Alike.{alikeAt, Decides}
+use Rattle.rules.specs.Alike.{alikeAt}
 use Rattle.rules.proofs.Alike.{left-decides, alike-judged}
 use Rattle.coverage.specs.Search.{brokenCompletion, Filling}
 use Rattle.coverage.proofs.Narrowing.{present-more}

@@ -10,9 +10,9 @@ use borrow.Author.Tests.{leb-true, eqb-true, eq-eqb}
 use Rattle.rules.specs.Bounded.{upto, any, every}
 use Rattle.rules.specs.Layout.{gives, require}
 use Rattle.rules.specs.Model.{Model, modelOf}
-use Rattle.rules.specs.Coverage.{covers, concreteClass, verdictNaming}
+use Rattle.rules.specs.Coverage.{covers, concreteClass}
 use Rattle.rules.specs.Machine as rules
-use Rattle.rules.specs.Calls.{scratchBytes, sendRule, used, runIn, runCall, checkCallNaming, scratchAfter}
+use Rattle.rules.specs.Calls.{scratchBytes, sendRule, used, runIn, checkCall, runCall, scratchAfter}
 use Rattle.rules.specs.Sound.{Covering, SoundEnding}
 use Rattle.rules.proofs.Lists.{and-left, and-right, and-both, any-mem, any-from, upto-below, below-upto}
 use Rattle.bundle_rules.specs.Opening.{Opens, said, saidOf}
@@ -36,20 +36,15 @@ use Rattle.calls.specs.declared.run.RunAnswer.the-variants as run
 use Rattle.curiumtoad.specs.declared.run_accepted.AcceptedRun.{AcceptedRun}
 use Rattle.curiumtoad.specs.declared.run_accepted.AcceptedRun.the-variants as accepted
 use Rattle.calls.specs.Said.{verdictSaid, runSaid}
-use Rattle.curiumtoad.specs.Checked.{Checks}
 use Rattle.curiumtoad.specs.Alike.{CoveredOpening, SoundAnswer, JudgedAlike}
 use Rattle.calls.specs.Covered.{coversSend}
 use Rattle.curiumtoad.specs.Accepted.{Unstopped, Ends, SoundEnd, Accepts}
 use Rattle.curiumtoad.proofs.Called.{scratch-filled}
-use Rattle.curiumtoad.proofs.Judging.{Given, given}
+use Rattle.curiumtoad.proofs.Judging.{given, accepted-given}
 
--- what an accepted check had
-pub accepted-given : (b : List ℕ) (n : ℕ) → Checks b n verdict.Accepted → (args : List ℕ) × Given b n (λ M. verdictNaming M args) tt
-unfolding checkCallNaming
-accepted-given b n c = (c .args, given b n (λ M. verdictNaming M (c .args)) tt (sym (c .verdict)))
-
-pub accepted-opens : (b : List ℕ) (n : ℕ) (f : LayoutFinding) → Checks b n verdict.Accepted → Opens b (opened-answer.Refused f) → ⊥
-accepted-opens b n f c o = never f (o .answer ∙ accepted-given b n c .1 .opens)
+-- an accepted check had a bundle that opens, and scratch enough
+pub accepted-opens : (b : List ℕ) (n : ℕ) (f : LayoutFinding) → checkCall b n ≡ gives tt → Opens b (opened-answer.Refused f) → ⊥
+accepted-opens b n f c o = never f (o .answer ∙ accepted-given b n c .opens)
   where
     never : (f : LayoutFinding) {counts : List ℕ} → saidOf f ≡ gives counts → ⊥
     never finding.Size e = false≢true (cc)
@@ -57,10 +52,10 @@ accepted-opens b n f c o = never f (o .answer ∙ accepted-given b n c .1 .opens
     never finding.Limits e = false≢true (cc)
     never (finding.Record rule k) e = false≢true (cc)
 
-pub accepted-prepared : (b scratch : List ℕ) {after : List ℕ} {t : Bundle} → Checks b (length scratch) verdict.Accepted → Opened b t
+pub accepted-prepared : (b scratch : List ℕ) {after : List ℕ} {t : Bundle} → checkCall b (length scratch) ≡ gives tt → Opened b t
     → after ≡ scratchAfter b scratch → Prepared b t after
 accepted-prepared b scratch c o q =
-    let g = accepted-given b (length scratch) c .1 in
+    let g = accepted-given b (length scratch) c in
     let long = leb-true scratchBytes (length scratch) (g .enough) in
     record { opened = o; filled = rw (q, scratch-filled b scratch (g .counts) (g .opens) long) (filled-whole (modelOf b) scratch long) }
 
@@ -136,13 +131,13 @@ outcome-unstopped M f tuple count o s = unstopped M f (used M f tuple) (o .endin
 
 -- what the matches on the answers of the check and of the run give
 module _ (b : List ℕ) (n f : ℕ) (tuple : List ℕ) (count : ℕ) where
-  pub accepted-check : {v : Verdict} → v ≡ verdict.Accepted → Checks b n v → Checks b n verdict.Accepted
-  accepted-check e c = rw e at c
+  pub accepted-check : {v : Verdict} → v ≡ verdict.Accepted → verdictSaid v ≡ checkCall b n → checkCall b n ≡ gives tt
+  accepted-check e c = sym c ∙ ap verdictSaid e
 
   pub ended-call : {a : RunAnswer} (o : Outcome) → a ≡ run.Ended o → runSaid a ≡ runCall b n f tuple count → runCall b n f tuple count ≡ gives (outcomeOf o)
   ended-call o e said = sym said ∙ ap runSaid e
 
-  pub not-accepted : {v : Verdict} (found : Finding) {o : rules.Outcome} → v ≡ verdict.Refused found → Checks b n v → runCall b n f tuple count ≡ gives o
+  pub not-accepted : {v : Verdict} (found : Finding) {o : rules.Outcome} → v ≡ verdict.Refused found → verdictSaid v ≡ checkCall b n → runCall b n f tuple count ≡ gives o
       → Accepts b n f tuple count (accepted.NotAccepted found)
   not-accepted found {o} e c q = (rw e at c, (o, q))
 
@@ -151,7 +146,7 @@ module _ (b : List ℕ) (n f : ℕ) (tuple : List ℕ) (count : ℕ) where
       → SoundAnswer (modelOf b) f tuple count (gives (outcomeOf o))
   sound-end o e q ended alike c = rw q at (alike (ap verdictSaid e) (covered-opening b n f tuple count ended c))
 
-pub accepts-end : (b : List ℕ) (n f : ℕ) (tuple : List ℕ) (count : ℕ) (r : AcceptedRun) (o : rules.Outcome) → Ends r o → Checks b n verdict.Accepted
+pub accepts-end : (b : List ℕ) (n f : ℕ) (tuple : List ℕ) (count : ℕ) (r : AcceptedRun) (o : rules.Outcome) → Ends r o → checkCall b n ≡ gives tt
     → CoveredOpening (modelOf b) f tuple → runCall b n f tuple count ≡ gives o → SoundAnswer (modelOf b) f tuple count (gives o) → Accepts b n f tuple count r
 accepts-end b n f tuple count r o e a v q s = go r o e (record { accepted = a; covered = v; ended = q; sound = s; ending = answer-ending (modelOf b) f tuple count o s })
   where

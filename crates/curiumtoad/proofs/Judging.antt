@@ -8,18 +8,15 @@ use lib.Dec.{leb}
 use lib.ListN.{length}
 use Rattle.rules.specs.Layout.{Answer, gives, refuses, opening, require}
 use Rattle.rules.specs.Model.{Model, modelOf}
-use Rattle.rules.specs.Coverage.{verdictNaming, firstBroken, brokenSignature, verdict}
+use Rattle.rules.specs.Coverage.{verdict}
 use Rattle.rules.specs.Machine.{run}
-use Rattle.rules.specs.Calls.{scratchBytes, onOpening, whenOpen, withScratch, used, runIn, runCall, checkCallNaming, overwrite, matrixByte, scratchOn, scratchAfter}
-use Rattle.rules.proofs.Coverage.{Acceptable, accepted-acceptable, acceptable-accepted}
+use Rattle.rules.specs.Calls.{scratchBytes, onOpening, whenOpen, withScratch, used, runIn, checkCall, runCall, overwrite, matrixByte, scratchOn, scratchAfter}
 use Rattle.rules.proofs.Sound.{demand-3}
-use Rattle.rules.proofs.Overwrite.{overwrite-length}
-use Rattle.rules.proofs.Overwrite.{overwrite-twice}
+use Rattle.rules.proofs.Overwrite.{overwrite-length, overwrite-twice}
 use borrow.Author.Tests.{leb-true, le-leb}
 use Rattle.calls.specs.declared.check.Verdict.{Verdict}
 use Rattle.calls.specs.declared.run.RunAnswer.{RunAnswer}
-use Rattle.calls.specs.Said.{runSaid}
-use Rattle.curiumtoad.specs.Checked.{Checks}
+use Rattle.calls.specs.Said.{verdictSaid, runSaid}
 use Rattle.curiumtoad.specs.Alike.{CoveredOpening, JudgedAlike, CallsJudgeAlike}
 
 -- a call over scratch that gives something had an opened bundle and scratch enough
@@ -47,28 +44,26 @@ unfolding runCall runIn withScratch whenOpen onOpening require
 run-answer b scratch f tuple count o l c =
     rw (o, l, c .kept, c .concrete)
 
-first-accepted : (M : Model) → Acceptable M → verdict M ≡ gives tt
-unfolding verdict
-first-accepted M a = acceptable-accepted M (firstBroken M (brokenSignature M)) a
+-- what an accepted check had
+pub accepted-given : (b : List ℕ) (n : ℕ) → checkCall b n ≡ gives tt → Given b n verdict tt
+unfolding checkCall
+accepted-given b n e = given b n verdict tt e
 
 -- any two calls, each with its own scratch
 pub calls-judge-alike : CallsJudgeAlike
-unfolding checkCallNaming
 calls-judge-alike b n v c k f tuple count r q long e w =
-    let g = given b n (λ M. verdictNaming M (c .args)) tt (sym (c .verdict) ∙ e) in
-    let acceptable = accepted-acceptable (modelOf b) (c .args) (c .names) (g .gave) in
+    let g = accepted-given b n (sym c ∙ e) in
     record {
       whole =
-          demand-3 b (g .counts) (g .opens) (first-accepted (modelOf b) acceptable) f (used (modelOf b) f tuple) (w .signature) (w .covering) (w .concrete) count;
+          demand-3 b (g .counts) (g .opens) (g .gave) f (used (modelOf b) f tuple) (w .signature) (w .covering) (w .concrete) count;
       answer = q ∙ run-answer b k f tuple count (g .opens) (le-leb scratchBytes k long) w;
     }
 
 -- two calls with scratches of one length: that it is enough follows from the acceptance
 pub judged-alike : (b : List ℕ) (n f : ℕ) (tuple : List ℕ) (count : ℕ) (v : Verdict) (r : RunAnswer)
-    → Checks b n v → runSaid r ≡ runCall b n f tuple count → JudgedAlike b f tuple count v r
-unfolding checkCallNaming
+    → verdictSaid v ≡ checkCall b n → runSaid r ≡ runCall b n f tuple count → JudgedAlike b f tuple count v r
 judged-alike b n f tuple count v r c q e =
-    let g = given b n (λ M. verdictNaming M (c .args)) tt (sym (c .verdict) ∙ e) in
+    let g = accepted-given b n (sym c ∙ e) in
     calls-judge-alike b n v c n f tuple count r q (leb-true scratchBytes n (g .enough)) e
 
 -- The second call finds the scratch of the first: as long, and filled the same.

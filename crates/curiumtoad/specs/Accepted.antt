@@ -6,7 +6,7 @@ use mathlib.Core.List.{List}
 use Rattle.rules.specs.Layout.{gives}
 use Rattle.rules.specs.Model.{modelOf}
 use Rattle.rules.specs.Machine as rules
-use Rattle.rules.specs.Calls.{used, runCall}
+use Rattle.rules.specs.Calls.{used, checkCall, runCall}
 use Rattle.rules.specs.Sound.{Covering, SoundEnding}
 use Rattle.machine.specs.declared.ending.Ending.the-variants as ending
 use Rattle.machine.specs.declared.ending.Ending as ending-type
@@ -16,8 +16,7 @@ use Rattle.calls.specs.declared.run.RunAnswer as run-type
 use Rattle.calls.specs.declared.run.RunAnswer.the-variants as run
 use Rattle.curiumtoad.specs.declared.run_accepted.AcceptedRun as accepted-type
 use Rattle.curiumtoad.specs.declared.run_accepted.AcceptedRun.the-variants.{Value, Spent, Deep, NotAccepted, NotCovered, Refused}
-use Rattle.calls.specs.Said.{refusalSaid}
-use Rattle.curiumtoad.specs.Checked.{Checks}
+use Rattle.calls.specs.Said.{refusalSaid, verdictSaid}
 use Rattle.curiumtoad.specs.Alike.{CoveredOpening, SoundAnswer}
 
 -- a run that no number stopped: Spent, Deep or a value
@@ -51,7 +50,7 @@ refusedAs r = run.Refused r
 -- The check accepts, some signature covers the opening send, the run ends so, and it is sound from its opening send to this end: a value is a concrete class
 -- under the result class of every signature that covers the opening send.
 pub record SoundEnd (b : List ℕ) (scratch f : ℕ) (tuple : List ℕ) (count : ℕ) (o : rules.Outcome) : Type 0 where
-  pub accepted : Checks b scratch verdict.Accepted
+  pub accepted : checkCall b scratch ≡ gives tt
   pub covered : CoveredOpening (modelOf b) f tuple
   pub ended : runCall b scratch f tuple count ≡ gives o
   pub sound : SoundAnswer (modelOf b) f tuple count (gives o)
@@ -61,7 +60,7 @@ abbrev pub Accepts : List ℕ → ℕ → ℕ → List ℕ → ℕ → accepted-
 Accepts b scratch f tuple count (Value c k) = SoundEnd b scratch f tuple count (record { ending = rules.value c; steps = k })
 Accepts b scratch f tuple count (Spent k) = SoundEnd b scratch f tuple count (record { ending = rules.spent; steps = k })
 Accepts b scratch f tuple count (Deep k) = SoundEnd b scratch f tuple count (record { ending = rules.deep; steps = k })
-Accepts b scratch f tuple count (NotAccepted found) = Checks b scratch (verdict.Refused found) × ((o : rules.Outcome) × (runCall b scratch f tuple count ≡ gives o))
+Accepts b scratch f tuple count (NotAccepted found) = (verdictSaid (verdict.Refused found) ≡ checkCall b scratch) × ((o : rules.Outcome) × (runCall b scratch f tuple count ≡ gives o))
 Accepts b scratch f tuple count NotCovered =
-    Checks b scratch verdict.Accepted × ((o : rules.Outcome) × (runCall b scratch f tuple count ≡ gives o)) × ((s : ℕ) → Covering (modelOf b) f (used (modelOf b) f tuple) s → ⊥)
+    (checkCall b scratch ≡ gives tt) × ((o : rules.Outcome) × (runCall b scratch f tuple count ≡ gives o)) × ((s : ℕ) → Covering (modelOf b) f (used (modelOf b) f tuple) s → ⊥)
 Accepts b scratch f tuple count (Refused r) = runCall b scratch f tuple count ≡ refusalSaid r

@@ -9,12 +9,11 @@ use Rattle.rules.specs.Layout.{Answer, gives}
 use Rattle.rules.specs.Model.{Model, modelOf}
 use Rattle.rules.specs.Coverage.{concreteClass}
 use Rattle.rules.specs.Machine.{Outcome, run}
-use Rattle.rules.specs.Calls.{scratchBytes, sendRule, used, runCall}
+use Rattle.rules.specs.Calls.{scratchBytes, sendRule, used, checkCall, runCall}
 use Rattle.rules.specs.Sound.{Covering, SoundRun}
 use Rattle.calls.specs.declared.check.Verdict as verdict-type
 use Rattle.calls.specs.declared.run.RunAnswer as run-type
 use Rattle.calls.specs.Said.{verdictSaid, runSaid}
-use Rattle.curiumtoad.specs.Checked.{Checks}
 
 -- An opening send that some signature of its function covers, with concrete classes and 0 at unused places.
 pub record CoveredOpening (M : Model) (f : ℕ) (tuple : List ℕ) : Type 0 where
@@ -40,7 +39,7 @@ JudgedAlike b f tuple count verdict outcome =
 abbrev pub CallsJudgeAlike : Type 0
 CallsJudgeAlike =
     (b : List ℕ) (n : ℕ) (v : verdict-type.Verdict)
-    → Checks b n v
+    → verdictSaid v ≡ checkCall b n
     → (k f : ℕ) (tuple : List ℕ) (count : ℕ) (r : run-type.RunAnswer)
     → runSaid r ≡ runCall b k f tuple count
     → scratchBytes ≤ k

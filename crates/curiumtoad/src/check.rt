@@ -9,9 +9,10 @@ pub use calls::check::Verdict;
 use calls::check::check_in;
 ghost use mathlib.Core.Path.{_≡_};
 ghost use lib.ListN.{length};
-ghost use Rattle.rules.specs.Calls.{scratchAfter};
+ghost use Rattle.rules.specs.Calls.{checkCall, scratchAfter};
+ghost use Rattle.calls.specs.Said.{verdictSaid};
 ghost use Rattle.curiumtoad.specs.Preparation.{Unprepared};
-ghost use Rattle.curiumtoad.specs.Checked.{Checks, UncheckedAs};
+ghost use Rattle.curiumtoad.specs.Checked.{UncheckedAs};
 
 // The verdict of a call that could not be prepared: 1 to 9, or 19.
 fn unchecked(prepared: Preparation) -> Verdict
@@ -24,10 +25,10 @@ fn unchecked(prepared: Preparation) -> Verdict
     }
 }
 
-// Whether the bundle is accepted, and if not, what is broken: the lowest-numbered broken signature with a broken tuple of it, or with none the lowest
+// Whether the bundle is accepted, and if not, what is broken: the lowest-numbered broken signature with its first broken tuple, or with none the lowest
 // broken method with its first broken instruction.
 pub fn check(bundle: &[u8], scratch: &mut [u8]) -> Verdict
-    ensures { λ r. ⌜ Checks (now (bundle .entry)) (length (now (scratch .entry))) r ⌝ }
+    ensures { λ r. ⌜ verdictSaid r ≡ checkCall (now (bundle .entry)) (length (now (scratch .entry))) ⌝ }
     ensures { λ r. ⌜ now (scratch .exit) ≡ scratchAfter (now (bundle .entry)) (now (scratch .entry)) ⌝ }
 {
     let prepared = prepare(bundle, scratch);

@@ -6,10 +6,9 @@ use crate::run::run;
 use dispatch::send::Send;
 ghost use mathlib.Core.Path.{_≡_};
 ghost use lib.ListN.{length};
-ghost use Rattle.rules.specs.Calls.{runCall, scratchAfter};
+ghost use Rattle.rules.specs.Calls.{checkCall, runCall, scratchAfter};
 ghost use Rattle.dispatch.specs.Send.{tupleOf};
-ghost use Rattle.calls.specs.Said.{runSaid};
-ghost use Rattle.curiumtoad.specs.Checked.{Checks};
+ghost use Rattle.calls.specs.Said.{verdictSaid, runSaid};
 ghost use Rattle.curiumtoad.specs.Alike.{JudgedAlike};
 
 // Both answers.
@@ -20,7 +19,7 @@ pub struct CheckedRun {
 
 // Checks the bundle and runs the send.
 pub fn checked_run(bundle: &[u8], scratch: &mut [u8], send: Send, count: u32) -> CheckedRun
-    ensures { λ r. ⌜ Checks (now (bundle .entry)) (length (now (scratch .entry))) (r .verdict) ⌝ }
+    ensures { λ r. ⌜ verdictSaid (r .verdict) ≡ checkCall (now (bundle .entry)) (length (now (scratch .entry))) ⌝ }
     ensures { λ r. ⌜ runSaid (r .outcome) ≡ runCall (now (bundle .entry)) (length (now (scratch .entry))) (send .function) (tupleOf send) count ⌝ }
     ensures { λ r. ⌜ JudgedAlike (now (bundle .entry)) (send .function) (tupleOf send) count (r .verdict) (r .outcome) ⌝ }
     ensures { λ r. ⌜ now (scratch .exit) ≡ scratchAfter (now (bundle .entry)) (now (scratch .entry)) ⌝ }

@@ -5,12 +5,9 @@ use mathlib.Core.Path.{_≡_}
 use mathlib.Core.List.{List, [], _∷_}
 use lib.ListN.{length}
 use Rattle.rules.specs.Layout.{codeAt}
-use Rattle.rules.specs.Model.{modelOf}
-use Rattle.rules.specs.Coverage.{NamesBroken}
-use Rattle.rules.specs.Calls.{checkCallNaming}
 use Rattle.reply.specs.declared.Reply as reply-type
 use Rattle.curiumtoad.specs.declared.run_accepted.AcceptedRun as accepted-type
-use Rattle.reply.specs.Replies.{reply, nothing, acceptedReply}
+use Rattle.reply.specs.Replies.{acceptedReply}
 use Rattle.curiumtoad.specs.Accepted.{Accepts}
 use Rattle.text.specs.declared.listing.ListingAnswer as listing-type
 use Rattle.text.specs.Listed.{Lists, listingReply}
@@ -26,12 +23,6 @@ Handed x number values = (number ≡ x .number) × (values ≡ x .values)
 -- the body view: where the part begins within the bundle, and its length
 abbrev pub placed : List ℕ → ℕ → List ℕ → List ℕ
 placed b m part = codeAt b m ∷ length part ∷ []
-
--- The check: for some tuple that may be named, all else is determined.
-pub record ChecksAs (b : List ℕ) (scratch : ℕ) (number : ℕ) (values : List ℕ) : Type 0 where
-  pub args : List ℕ
-  pub names : NamesBroken (modelOf b) args
-  pub handed : Handed (reply nothing (checkCallNaming b scratch args)) number values
 
 -- The run of an accepted bundle.
 pub record AcceptsAs (b : List ℕ) (scratch f : ℕ) (tuple : List ℕ) (count : ℕ) (number : ℕ) (values : List ℕ) : Type 0 where

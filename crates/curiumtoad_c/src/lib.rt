@@ -18,9 +18,9 @@ use text::listing::listing;
 ghost use mathlib.Core.Path.{_≡_};
 ghost use mathlib.Core.List.{[], _∷_};
 ghost use lib.ListN.{length};
-ghost use Rattle.rules.specs.Calls.{openingCall, ancestryCall, lookupCall, sendTypeCall, witnessCall, bodyViewCall, runCall, scratchAfter, rowAfter};
+ghost use Rattle.rules.specs.Calls.{openingCall, ancestryCall, lookupCall, sendTypeCall, checkCall, witnessCall, bodyViewCall, runCall, scratchAfter, rowAfter};
 ghost use Rattle.reply.specs.Replies.{reply, nothing, counts, yesOrNo, method, runReply};
-ghost use Rattle.curiumtoad_c.specs.Exported.{version, Handed, placed, ChecksAs, AcceptsAs, ListsAs};
+ghost use Rattle.curiumtoad_c.specs.Exported.{version, Handed, placed, AcceptsAs, ListsAs};
 
 // Writes the values, and gives the number.
 fn give(values: &mut [usize; 8], reply: Reply) -> u8
@@ -135,7 +135,7 @@ pub extern "C" fn curiumtoad_body(bundle: &[u8], method: usize, values: &mut [us
 // The check of the whole bundle: accepted, or what is broken.
 #[no_mangle]
 pub extern "C" fn curiumtoad_check(bundle: &[u8], scratch: &mut [u8], values: &mut [usize; 8]) -> u8
-    ensures { λ r. ⌜ ChecksAs (now (bundle .entry)) (length (now (scratch .entry))) r (now (values .exit)) ⌝ }
+    ensures { λ r. ⌜ Handed (reply nothing (checkCall (now (bundle .entry)) (length (now (scratch .entry))))) r (now (values .exit)) ⌝ }
     ensures { λ r. ⌜ now (scratch .exit) ≡ scratchAfter (now (bundle .entry)) (now (scratch .entry)) ⌝ }
 {
     let verdict = check(bundle, scratch);

@@ -15,10 +15,10 @@ use Rattle.rules.specs.Model.{Model}
 use Rattle.rules.specs.Subclass.{subclass, under}
 use Rattle.rules.specs.Lookup.{Found, found, missing, ambiguous, lookup}
 use Rattle.rules.specs.Types.{Typing, typed, breaks, typeBody}
-use Rattle.rules.specs.Coverage.{covers, declaredHold, Judgement, holds, fails, judgeFound, judge, failing, concreteClass, concreteUnder, prefixed, tuples, brokenTuple, isSome, brokenSignature, breaking, brokenMethod, coverageRefusal, bodyRefusal, bodyVerdict, coverageVerdict, verdictNaming, Names, NamesBroken, tupleOr, firstBroken, verdict}
+use Rattle.rules.specs.Coverage.{covers, declaredHold, Judgement, holds, fails, judgeFound, judge, failing, concreteClass, concreteUnder, prefixed, tuples, brokenTuple, isSome, brokenSignature, breaking, brokenMethod, coverageRefusal, bodyRefusal, bodyVerdict, tupleVerdict, coverageVerdict, verdict}
 use Rattle.rules.proofs.Lists.{test, and-left, and-right, and-both, keep-mem, keep-in, below-upto, first-mem, first-none, none-first, lowest-none, lowest-some, none-lowest}
 
-prefixed-mem : (ks : List ℕ) (ts : List (List ℕ)) {t : List ℕ} → List·Memᴰ t (prefixed ks ts)
+pub prefixed-mem : (ks : List ℕ) (ts : List (List ℕ)) {t : List ℕ} → List·Memᴰ t (prefixed ks ts)
     → (k : ℕ) × (u : List ℕ) × (t ≡ k ∷ u) × List·Memᴰ k ks × List·Memᴰ u ts
 unfolding prefixed
 prefixed-mem [] ts h = absurd (List·Memᴰ·not-nil h)
@@ -111,12 +111,9 @@ unfolding brokenTuple covers
 covered-holds M s e t c u =
     not-failing (judge M s t) (first-none (λ t. failing (judge M s t)) (tuples M (M .sigArgs s)) e (tuples-in M (M .sigArgs s) t c u))
 
-pub broken-names : (M : Model) (s : ℕ) (t : List ℕ) → brokenTuple M s ≡ some t → Names M t s
-unfolding brokenTuple covers
-broken-names M s t e =
-    let (h, f) = first-mem (λ t. failing (judge M s t)) (tuples M (M .sigArgs s)) e in
-    let (c, u) = tuples-mem M (M .sigArgs s) h in
-    record { covered = u; concrete = c; broken = f }
+pub broken-fails : (M : Model) (s : ℕ) (t : List ℕ) → brokenTuple M s ≡ some t → failing (judge M s t) ≡ true
+unfolding brokenTuple
+broken-fails M s t e = first-mem (λ t. failing (judge M s t)) (tuples M (M .sigArgs s)) e .1
 
 pub holds-unbroken : (M : Model) (s : ℕ) → ((t : List ℕ) → every (concreteClass M) t ≡ true → covers M s t ≡ true → failing (judge M s t) ≡ false)
     → brokenTuple M s ≡ none
@@ -193,34 +190,28 @@ unfolding breaking bodyRefusal
 refused-body m typed f e = false≢true f
 refused-body m (breaks number at) f e = false≢true (cc)
 
--- whatever broken tuple is named, the verdict is accepted exactly when the bundle is acceptable
-pub accepted-acceptable : (M : Model) (args : List ℕ) → NamesBroken M args → verdictNaming M args ≡ gives tt → Acceptable M
-unfolding verdictNaming coverageVerdict bodyVerdict
-accepted-acceptable M args names e = go (brokenSignature M) refl (brokenMethod M) refl
+-- the verdict is accepted exactly when the bundle is acceptable
+pub accepted-acceptable : (M : Model) → verdict M ≡ gives tt → Acceptable M
+unfolding verdict coverageVerdict tupleVerdict bodyVerdict
+accepted-acceptable M e = go (brokenSignature M) refl (brokenMethod M) refl
   where
     go : (s : Option ℕ) → brokenSignature M ≡ s → (m : Option ℕ) → brokenMethod M ≡ m → Acceptable M
     go none p none q = record { signatures = no-broken-signature M p; bodies = no-broken-method M q }
     go none p (some m) q = absurd (refused-body m (typeBody M m) (broken-method M m q .1) (rw (p, q) at e))
-    go (some s) p m q = absurd (refused-coverage M s args (judge M s args) (names s p .broken) (rw p at e))
+    go (some s) p m q =
+        let (t, r) = broken-signature M s p .1 in
+        absurd (refused-coverage M s t (judge M s t) (broken-fails M s t r) (rw (p, r) at e))
 
-pub acceptable-accepted : (M : Model) (args : List ℕ) → Acceptable M → verdictNaming M args ≡ gives tt
-unfolding verdictNaming coverageVerdict bodyVerdict
-acceptable-accepted M args a = rw (all-covered M (a .signatures), all-typed M (a .bodies))
+pub acceptable-accepted : (M : Model) → Acceptable M → verdict M ≡ gives tt
+unfolding verdict coverageVerdict bodyVerdict
+acceptable-accepted M a = rw (all-covered M (a .signatures), all-typed M (a .bodies))
 
--- otherwise the lowest broken signature is refused with the tuple named, or with none the lowest broken method
-pub verdict-signature : (M : Model) (args : List ℕ) (s : ℕ) → brokenSignature M ≡ some s → verdictNaming M args ≡ coverageRefusal M s args (judge M s args)
-unfolding verdictNaming coverageVerdict
-verdict-signature M args s e = rw e
+-- otherwise the lowest broken signature is refused with its first broken tuple, or with none the lowest broken method
+pub verdict-signature : (M : Model) (s : ℕ) (t : List ℕ) → brokenSignature M ≡ some s → brokenTuple M s ≡ some t
+    → verdict M ≡ coverageRefusal M s t (judge M s t)
+unfolding verdict coverageVerdict tupleVerdict
+verdict-signature M s t p q = rw (p, q)
 
-pub verdict-method : (M : Model) (args : List ℕ) (m : ℕ) → brokenSignature M ≡ none → brokenMethod M ≡ some m → verdictNaming M args ≡ bodyRefusal m (typeBody M m)
-unfolding verdictNaming coverageVerdict bodyVerdict
-verdict-method M args m p q = rw (p, q)
-
--- the first broken tuple is one that may be named
-pub first-names : (M : Model) → NamesBroken M (firstBroken M (brokenSignature M))
-unfolding firstBroken tupleOr
-first-names M s e = let (t, q) = broken-signature M s e .1 in rw (e, q) (broken-names M s t q)
-
-pub verdict-acceptable : (M : Model) → verdict M ≡ gives tt → Acceptable M
-unfolding verdict
-verdict-acceptable M e = accepted-acceptable M (firstBroken M (brokenSignature M)) (first-names M) e
+pub verdict-method : (M : Model) (m : ℕ) → brokenSignature M ≡ none → brokenMethod M ≡ some m → verdict M ≡ bodyRefusal m (typeBody M m)
+unfolding verdict coverageVerdict bodyVerdict
+verdict-method M m p q = rw (p, q)

@@ -8,6 +8,7 @@ pub mod Subclass
 pub mod Lookup
 pub mod Selection
 pub mod Coverage
+pub mod First
 pub mod Alike
 pub mod Types
 pub mod Machine

@@ -23,7 +23,7 @@ use Rattle.rules.proofs.Lists.{test, and-left, and-right, and-both, eve
 use Rattle.rules.proofs.Subclass.{subclass-itself, subclass-trans}
 use Rattle.rules.proofs.Lookup.{lookup-leader, candidate-places}
 use Rattle.rules.proofs.Types.{Licence, result-licence}
-use Rattle.rules.proofs.Coverage.{concrete-present, Holding, judge-holds, Acceptable, verdict-acceptable}
+use Rattle.rules.proofs.Coverage.{concrete-present, Holding, judge-holds, Acceptable, accepted-acceptable}
 use Rattle.rules.proofs.Wellformed.{opened-wellformed}
 
 -- A value conforms to a type when it is a concrete class under each class that generates the type.
@@ -389,4 +389,4 @@ module _ (M : Model) (w : Wellformed M) (ok : Acceptable M) where
 -- soundness of the whole run (M 9.1)
 pub demand-3 : Demand3
 demand-3 b counts o a f args s v c count =
-    run-sound (modelOf b) (opened-wellformed b counts o) (verdict-acceptable (modelOf b) a) f args s v c count
+    run-sound (modelOf b) (opened-wellformed b counts o) (accepted-acceptable (modelOf b) a) f args s v c count

@@ -11,7 +11,7 @@ use Rattle.rules.specs.Model.{Model, modelOf}
 use Rattle.rules.specs.Subclass.{subclass}
 use Rattle.rules.specs.Lookup.{Found, found, missing, ambiguous, lookup}
 use Rattle.rules.specs.Types.{Static, inType, sendType}
-use Rattle.rules.specs.Coverage.{concreteClass, covers, judge, coverageRefusal, verdictNaming, verdict}
+use Rattle.rules.specs.Coverage.{concreteClass, covers, judge, coverageRefusal, verdict}
 use Rattle.rules.specs.Machine.{Outcome, run}
 
 -- the least lengths of a lent scratch and of a lent row (M 10.2, 10.3)
@@ -83,12 +83,9 @@ sendTypeIn row f tuple M =
 unfoldable pub sendTypeCall : List ℕ → ℕ → ℕ → ℕ → List ℕ → Answer Static
 sendTypeCall b scratch row f tuple = withScratch b scratch (sendTypeIn row f tuple)
 
+-- the check call (M 7.4)
 unfoldable pub checkCall : List ℕ → ℕ → Answer (Unit {0})
 checkCall b scratch = withScratch b scratch verdict
-
--- the same with the tuple that a coverage refusal names
-unfoldable pub checkCallNaming : List ℕ → ℕ → List ℕ → Answer (Unit {0})
-checkCallNaming b scratch args = withScratch b scratch (λ M. verdictNaming M args)
 
 -- 18 of a witness: no such signature, an abstract class among the arguments, a tuple that the signature does not cover (M 10.4).
 unfoldable pub witnessRule : Model → ℕ → List ℕ → Bool

@@ -11,7 +11,7 @@ use Rattle.rules.specs.Layout.{Answer, gives, refuses}
 use Rattle.rules.specs.Types.{Static}
 use Rattle.rules.specs.Machine.{Ending, value, spent, deep, stopped}
 use Rattle.rules.specs.Calls.{scratchBytes, rowBytes, openingCall, ancestryCall, lookupCall, sendTypeCall, checkCall, witnessCall, bodyViewCall, bodyViewStart, runCall, bit, rowAfter}
-use Rattle.rules.specs.Samples.{chart3, chart4, chart5, loop, oneClass, abstractArgument, narrowDeclared, wideResult, twoValues, abstractNew, noLicence, looseResult, twentyThreeBytes, directoryGap, emptySections, ownParent, fourArguments, absentResult, emptyBody, twinMethods, unknownOperation, noMethod, threeFaults}
+use Rattle.rules.specs.Samples.{chart3, chart4, chart5, loop, oneClass, abstractArgument, narrowDeclared, wideResult, twoValues, abstractNew, noLicence, looseResult, twentyThreeBytes, directoryGap, emptySections, ownParent, fourArguments, absentResult, emptyBody, twinMethods, unknownOperation, noMethod, threeFaults, severalBroken}
 
 -- A call on a bundle, with what it comes to. Scratch and row are large enough, but for `checksIn` and `typesIn`, which give their length.
 pub data Case : Type 0 where
@@ -90,6 +90,7 @@ worked =
     ∷ checks threeFaults (refuses 10 (0 ∷ 0 ∷ 0 ∷ 0 ∷ 0 ∷ []))
     ∷ finds noMethod 0 (0 ∷ 0 ∷ 0 ∷ []) (refuses 10 (0 ∷ 0 ∷ 0 ∷ 0 ∷ []))
     ∷ checks narrowDeclared (refuses 12 (0 ∷ 0 ∷ 0 ∷ 0 ∷ 0 ∷ 0 ∷ []))
+    ∷ checks severalBroken (refuses 12 (0 ∷ 0 ∷ 1 ∷ 3 ∷ 0 ∷ 3 ∷ []))
     ∷ checks wideResult (refuses 13 (0 ∷ 0 ∷ 0 ∷ 0 ∷ 0 ∷ 0 ∷ []))
     ∷ checks twoValues (refuses 14 (0 ∷ 2 ∷ []))
     ∷ checks abstractNew (refuses 15 (0 ∷ 0 ∷ []))

@@ -1,12 +1,11 @@
 -- Coverage (M 6; what the Diesel report calls a complete, consistent and conforming implementation of a signature), and the verdict.
 -- Assumes nothing.
 use Prim.Native.Nat.{ℕ}
-use mathlib.Core.Path.{_≡_}
 use mathlib.Core.Bool.{Bool, true, false, cond, _&&_}
 use mathlib.Core.List.{List, [], _∷_, _++_, map}
 use mathlib.Core.Option.{Option, none, some}
 use lib.Dec.{ltb}
-use Rattle.rules.specs.Bounded.{upto, every, keep, first}
+use Rattle.rules.specs.Bounded.{upto, keep, first}
 use Rattle.rules.specs.Layout.{Answer, gives, refuses, padded}
 use Rattle.rules.specs.Model.{Model}
 use Rattle.rules.specs.Subclass.{subclass, under}
@@ -93,31 +92,16 @@ unfoldable pub bodyVerdict : Model → Option ℕ → Answer (Unit {0})
 bodyVerdict M none = gives tt
 bodyVerdict M (some m) = bodyRefusal m (typeBody M m)
 
--- signatures are judged before bodies (M 7.4); the tuple is the one that a coverage refusal names
-unfoldable pub coverageVerdict : Model → Option ℕ → List ℕ → Answer (Unit {0})
-coverageVerdict M none args = bodyVerdict M (brokenMethod M)
-coverageVerdict M (some s) args = coverageRefusal M s args (judge M s args)
+-- the refusal of a signature with its first broken tuple; a signature that has none is not refused
+unfoldable pub tupleVerdict : Model → ℕ → Option (List ℕ) → Answer (Unit {0})
+tupleVerdict M s none = gives tt
+tupleVerdict M s (some args) = coverageRefusal M s args (judge M s args)
 
-unfoldable pub verdictNaming : Model → List ℕ → Answer (Unit {0})
-verdictNaming M args = coverageVerdict M (brokenSignature M) args
+-- signatures are judged before bodies (M 7.4)
+unfoldable pub coverageVerdict : Model → Option ℕ → Answer (Unit {0})
+coverageVerdict M none = bodyVerdict M (brokenMethod M)
+coverageVerdict M (some s) = tupleVerdict M s (brokenTuple M s)
 
--- what the check may name (M 6.4): a tuple of concrete classes that the lowest broken signature, if there is one, covers, and for which the rule fails
-pub record Names (M : Model) (args : List ℕ) (s : ℕ) : Type 0 where
-  pub covered : covers M s args ≡ true
-  pub concrete : every (concreteClass M) args ≡ true
-  pub broken : failing (judge M s args) ≡ true
-
-abbrev pub NamesBroken : Model → List ℕ → Type 0
-NamesBroken M args = (s : ℕ) → brokenSignature M ≡ some s → Names M args s
-
-unfoldable pub tupleOr : Option (List ℕ) → List ℕ
-tupleOr none = []
-tupleOr (some args) = args
-
-unfoldable pub firstBroken : Model → Option ℕ → List ℕ
-firstBroken M none = []
-firstBroken M (some s) = tupleOr (brokenTuple M s)
-
--- the verdict that names the first broken tuple, the leftmost argument turning slowest
+-- The verdict: accepted, or the lowest broken signature with its first broken tuple, or the lowest broken method.
 unfoldable pub verdict : Model → Answer (Unit {0})
-verdict M = verdictNaming M (firstBroken M (brokenSignature M))
+verdict M = coverageVerdict M (brokenSignature M)

@@ -6,6 +6,7 @@ pub mod Subclass
 pub mod Lookup
 pub mod Types
 pub mod Coverage
+pub mod First
 pub mod Alike
 pub mod Machine
 pub mod Calls

@@ -10,9 +10,10 @@ use lib.Seq.{length-take-le, take-length}
 use Rattle.rules.specs.Layout.{Answer, gives, refuses, opening, require}
 use Rattle.rules.specs.Model.{Model, Wellformed, modelOf}
 use Rattle.rules.specs.Types.{Typing, typed, breaks, typeBody}
-use Rattle.rules.specs.Coverage.{Judgement, holds, fails, judge, brokenMethod, brokenSignature, coverageRefusal, bodyRefusal, bodyVerdict, coverageVerdict, verdictNaming, firstBroken}
-use Rattle.rules.specs.Calls.{scratchBytes, whenOpen, onOpening, withScratch, checkCallNaming}
-use Rattle.rules.proofs.Coverage.{broken-signature, first-names}
+use Rattle.rules.specs.Coverage.{Judgement, holds, fails, judge, brokenMethod, brokenSignature, coverageRefusal, bodyRefusal, bodyVerdict, tupleVerdict, coverageVerdict}
+use Rattle.rules.specs.Coverage as coverage-rules
+use Rattle.rules.specs.Calls.{scratchBytes, whenOpen, onOpening, withScratch, checkCall}
+use Rattle.rules.proofs.Coverage.{broken-signature}
 use Rattle.bundle_rules.specs.Opening.{saidOf}
 use Rattle.layout.specs.declared.bundle.Bundle.{Bundle}
 use Rattle.bundle_rules.specs.declared.finding.LayoutFinding as layout-type
@@ -24,13 +25,13 @@ use Rattle.calls.specs.declared.check.Finding.the-variants as finding
 use Rattle.calls.specs.declared.check.Verdict as verdict-type
 use Rattle.calls.specs.declared.check.Verdict.the-variants as verdict
 use Rattle.calls.specs.Said.{coverageSaid, verdictSaid}
-use Rattle.curiumtoad.specs.Checked.{Checks}
 use Rattle.curiumtoad.proofs.Called.{layout-refuses}
 use Rattle.text.specs.declared.listing.ListingAnswer as listing-type
 use Rattle.text.specs.declared.listing.ListingAnswer.the-variants as listing
-use Rattle.text.specs.Text.{countsLine, verdictLine, listingOn, listingNaming}
+use Rattle.text.specs.Text.{countsLine, verdictLine, listingOn}
+use Rattle.text.specs.Text as text
 use Rattle.text.specs.Appended.{Appended}
-use Rattle.text.specs.Listed.{functionOf, Named, OpenedAs, Composed, Written, Lists, layoutLine}
+use Rattle.text.specs.Listed.{functionOf, Named, OpenedAs, Composed, Lists, layoutLine}
 use Rattle.text.proofs.Growing.{grown-both}
 
 -- how many values come with a number, and the second of them
@@ -72,88 +73,81 @@ module _ (M : Model) where
   refusal-second s args (fails number ms) h = refl
 
   -- the second of five values of a verdict is a function that is there
-  verdict-second : Wellformed M → (args : List ℕ) (o : Option ℕ) → brokenSignature M ≡ o → 5 ≤ many (coverageVerdict M o args)
-      → second (coverageVerdict M o args) < M .functions
-  unfolding coverageVerdict
-  verdict-second w args none e h = absurd (omega (arith, h, bodies-few (brokenMethod M)))
-  verdict-second w args (some s) e h =
-      subst (λ (f : ℕ). f < M .functions) (sym (refusal-second s args (judge M s args) h)) (w .sig-function s (broken-signature M s e .0))
+  verdict-second : Wellformed M → (o : Option ℕ) → brokenSignature M ≡ o → 5 ≤ many (coverageVerdict M o) → second (coverageVerdict M o) < M .functions
+  unfolding coverageVerdict tupleVerdict
+  verdict-second w none e h = absurd (omega (arith, h, bodies-few (brokenMethod M)))
+  verdict-second w (some s) e h =
+      let (bound, (t, q), _) = broken-signature M s e in
+      rw (q, refusal-second s t (judge M s t) (rw q at h)) (w .sig-function s bound)
 
 module _ {b : List ℕ} {t : Bundle} (o : OpenedAs b t) where
   -- the check of a bundle that opens, with scratch enough, is the verdict
-  checked : (scratch : ℕ) (args : List ℕ) → scratch ≡ scratchBytes → checkCallNaming b scratch args ≡ verdictNaming (modelOf b) args
-  unfolding checkCallNaming withScratch whenOpen onOpening require
-  checked scratch args h = rw (sym (o .answer), h) refl
+  checked : (scratch : ℕ) → scratch ≡ scratchBytes → checkCall b scratch ≡ coverage-rules.verdict (modelOf b)
+  unfolding checkCall withScratch whenOpen onOpening require
+  checked scratch h = rw (sym (o .answer), h) refl
 
-  pub verdict-named : (scratch : ℕ) (r : verdict-type.Verdict) → scratch ≡ scratchBytes → Checks b scratch r → Named (t .functions) r
-  unfolding verdictNaming
+  pub verdict-named : (scratch : ℕ) (r : verdict-type.Verdict) → scratch ≡ scratchBytes → verdictSaid r ≡ checkCall b scratch → Named (t .functions) r
+  unfolding coverage-rules.verdict
   verdict-named scratch verdict.Accepted h c = tt
   verdict-named scratch (verdict.Refused (finding.Layout f)) h c = tt
   verdict-named scratch (verdict.Refused finding.Scratch) h c = tt
   verdict-named scratch (verdict.Refused (finding.Coverage x)) h c =
       let M = modelOf b in
-      let e : coverageSaid x ≡ coverageVerdict M (brokenSignature M) (c .args) = c .verdict ∙ checked scratch (c .args) h in
-      let there = verdict-second M (wellformed-of (opened-of o)) (c .args) (brokenSignature M) refl (subst (λ (a : Answer (Unit {0})). 5 ≤ many a) e (coverage-many x)) in
+      let e : coverageSaid x ≡ coverageVerdict M (brokenSignature M) = c ∙ checked scratch h in
+      let there = verdict-second M (wellformed-of (opened-of o)) (brokenSignature M) refl (subst (λ (a : Answer (Unit {0})). 5 ≤ many a) e (coverage-many x)) in
       omega (arith, there, coverage-second x, ap second e, counts-of (opened-of o) .functions)
   verdict-named scratch (verdict.Refused (finding.Body x)) h c = tt
 
-  pub composed-opened : (scratch : ℕ) (v : verdict-type.Verdict) (old mid new : List ℕ) (q r : ℕ) → scratch ≡ scratchBytes → Checks b scratch v → 512 ≤ length old
+  pub composed-opened : (scratch : ℕ) (v : verdict-type.Verdict) (old mid new : List ℕ) (q r : ℕ) → scratch ≡ scratchBytes → verdictSaid v ≡ checkCall b scratch → 512 ≤ length old
       → Appended 140 old 0 (countsLine (t .classes ∷ t .functions ∷ t .signatures ∷ t .methods ∷ [])) mid q
       → Appended 268 mid q (verdictLine (modelOf b) (verdictSaid v)) new r → Composed b new r
-  unfolding listingNaming listingOn
+  unfolding text.listing listingOn
   composed-opened scratch v old mid new q r h c room counts line =
       let M = modelOf b in
       let both = grown-both counts line in
       let head = countsLine (t .classes ∷ t .functions ∷ t .signatures ∷ t .methods ∷ []) in
       record {
-        args = c .args;
-        names = c .names;
         fits = omega (arith, both .bound, both .same, room);
         written =
             both .text
-            ∙ ap (λ (a : Answer (Unit {0})). head ++ verdictLine M a) (c .verdict ∙ checked scratch (c .args) h)
-            ∙ ap (λ (a : Answer (List ℕ)). listingOn a M (c .args)) (o .answer);
+            ∙ ap (λ (a : Answer (Unit {0})). head ++ verdictLine M a) (c ∙ checked scratch h)
+            ∙ ap (λ (a : Answer (List ℕ)). listingOn a M) (o .answer);
       }
 
 pub composed-refused : (b : List ℕ) (f : layout-type.LayoutFinding) (old new : List ℕ) (r : ℕ) → saidOf f ≡ opening b → 512 ≤ length old
     → Appended 76 old 0 (layoutLine (modelOf b) f) new r → Composed b new r
-unfolding listingNaming listingOn
+unfolding text.listing listingOn
 composed-refused b f old new r e room a =
     let M = modelOf b in
-    let args = firstBroken M (brokenSignature M) in
     record {
-      args = args;
-      names = first-names M;
       fits = omega (arith, a .bound, a .same, room);
-      written = a .text ∙ ap (λ (x : Answer (List ℕ)). listingOn x M args) (sym (layout-refuses f) ∙ e);
+      written = a .text ∙ ap (λ (x : Answer (List ℕ)). listingOn x M) (sym (layout-refuses f) ∙ e);
     }
 
 -- the text has as many bytes as were composed
-composed-length : {b own : List ℕ} {r : ℕ} (c : Composed b own r) → length (listingNaming b (c .args)) ≡ r
+composed-length : {b own : List ℕ} {r : ℕ} (c : Composed b own r) → length (text.listing b) ≡ r
 composed-length {b} {own} {r} c = ap length (sym (c .written)) ∙ length-take-le r own (c .fits)
 
 pub listed-short : (b own old : List ℕ) (r : ℕ) → Composed b own r → length old < r → Lists b old old listing.Short
-listed-short b own old r c h = record { args = c .args; names = c .names; written = (omega (arith, h, composed-length c), refl) }
+listed-short b own old r c h = record { written = (omega (arith, h, composed-length c), refl) }
 
 pub listed-written : (b own old new : List ℕ) (r : ℕ) → Composed b own r → r ≤ length old
     → new ≡ take (length (take r own)) (take r own) ++ drop (length (take r own)) old → Lists b old new (listing.Written r)
 listed-written b own old new r c h e =
     let n = composed-length c in
-    let all : take (length (take r own)) (take r own) ≡ listingNaming b (c .args) = take-length (take r own) ∙ c .written in
+    let all : take (length (take r own)) (take r own) ≡ text.listing b = take-length (take r own) ∙ c .written in
     record {
-      args = c .args;
-      names = c .names;
       written = (
         sym n,
         omega (arith, h, n),
         e
             ∙ ap (λ (t : List ℕ). t ++ drop (length (take r own)) old) all
-            ∙ ap (λ (t : List ℕ). listingNaming b (c .args) ++ drop (length t) old) (c .written),
+            ∙ ap (λ (t : List ℕ). text.listing b ++ drop (length t) old) (c .written),
       );
     }
 
 -- what is written is within the buffer
 pub written-within : {b old new : List ℕ} {n : ℕ} {r : listing-type.ListingAnswer} → r ≡ listing.Written n → Lists b old new r → n ≤ length new
 written-within {b} {old} {new} {n} e l =
-    let w : Written (listingNaming b (l .args)) old new (listing.Written n) = subst (Written (listingNaming b (l .args)) old new) e (l .written) in
-    omega (arith, w .0, ap length (w .2), length-append (listingNaming b (l .args)) (drop (length (listingNaming b (l .args))) old))
+    let w = (subst (Lists b old new) e l) .written in
+    omega (arith, w .0, ap length (w .2), length-append (text.listing b) (drop (length (text.listing b)) old))

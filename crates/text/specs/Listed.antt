@@ -4,8 +4,7 @@ use Prim.Native.Nat.{ℕ, _≤_, _<_}
 use mathlib.Core.Path.{_≡_}
 use mathlib.Core.List.{List, [], _∷_, _++_}
 use lib.ListN.{length, take, drop}
-use Rattle.rules.specs.Model.{Model, modelOf}
-use Rattle.rules.specs.Coverage.{NamesBroken}
+use Rattle.rules.specs.Model.{Model}
 use Rattle.bundle_rules.specs.Opening.{saidOf, Opens}
 use Rattle.layout.specs.declared.bundle.Bundle.{Bundle}
 use Rattle.bundle_rules.specs.declared.finding.Opening.the-variants as answer
@@ -21,7 +20,7 @@ use Rattle.reply.specs.declared.Reply.{Reply}
 use Rattle.reply.specs.Replies.{numbered}
 use Rattle.text.specs.declared.listing.ListingAnswer as listing-type
 use Rattle.text.specs.declared.listing.ListingAnswer.the-variants as listing
-use Rattle.text.specs.Text.{refusedLine, listingNaming}
+use Rattle.text.specs.Text as text
 
 -- the bundle opens with these tables
 abbrev pub OpenedAs : List ℕ → Bundle → Type 0
@@ -50,14 +49,12 @@ refusedWith f = verdict.Refused f
 
 -- the line of a layout refusal, which is the same in every model
 abbrev pub layoutLine : Model → LayoutFinding → List ℕ
-layoutLine M f = refusedLine M (numberOf (saidOf f)) (valuesOf (saidOf f))
+layoutLine M f = text.refusedLine M (numberOf (saidOf f)) (valuesOf (saidOf f))
 
--- The first bytes are the text for the bundle, with some tuple that the check may name.
-pub record Composed (b : List ℕ) (text : List ℕ) (r : ℕ) : Type 0 where
-  pub args : List ℕ
-  pub names : NamesBroken (modelOf b) args
-  pub fits : r ≤ length text
-  pub written : take r text ≡ listingNaming b args
+-- the first bytes are the text for the bundle
+pub record Composed (b : List ℕ) (bytes : List ℕ) (r : ℕ) : Type 0 where
+  pub fits : r ≤ length bytes
+  pub written : take r bytes ≡ text.listing b
 
 -- A text in a lent buffer: its length, with the bytes after it untouched; or the buffer is too short, and untouched.
 abbrev pub Written : List ℕ → List ℕ → List ℕ → listing-type.ListingAnswer → Type 0
@@ -69,11 +66,9 @@ abbrev pub Told : listing-type.ListingAnswer → Type 0
 Told (listing.Written n) = Unit {0}
 Told listing.Short = ⊥
 
--- The promise of the listing: the text for the bundle, with some tuple that the check may name, is in the buffer.
-pub record Lists (b : List ℕ) (old new : List ℕ) (r : listing-type.ListingAnswer) : Type 0 where
-  pub args : List ℕ
-  pub names : NamesBroken (modelOf b) args
-  pub written : Written (listingNaming b args) old new r
+-- the promise of the listing: the text for the bundle is in the buffer
+pub record Lists (b old new : List ℕ) (r : listing-type.ListingAnswer) : Type 0 where
+  pub written : Written (text.listing b) old new r
 
 -- the answer as a reply: the length, or the number of a row that is too short
 abbrev pub listingReply : listing-type.ListingAnswer → Reply

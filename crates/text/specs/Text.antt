@@ -8,7 +8,7 @@ use lib.Dec.{ltb}
 use lib.ListN.{getD, take, drop}
 use Rattle.rules.specs.Layout.{Answer, gives, refuses, opening, places}
 use Rattle.rules.specs.Model.{Model, modelOf}
-use Rattle.rules.specs.Coverage.{verdictNaming}
+use Rattle.rules.specs.Coverage.{verdict}
 use Rattle.text.specs.Ascii.{ascii}
 
 -- a number of at most so many digits in decimal, without zeros in front
@@ -66,10 +66,10 @@ verdictLine M (gives accepted) = ascii "accepted\n"
 verdictLine M (refuses number values) = refusedLine M number values
 
 -- a bundle that does not open has no counts to print
-unfoldable pub listingOn : Answer (List ℕ) → Model → List ℕ → List ℕ
-listingOn (gives counts) M args = countsLine counts ++ verdictLine M (verdictNaming M args)
-listingOn (refuses number values) M args = refusedLine M number values
+unfoldable pub listingOn : Answer (List ℕ) → Model → List ℕ
+listingOn (gives counts) M = countsLine counts ++ verdictLine M (verdict M)
+listingOn (refuses number values) M = refusedLine M number values
 
--- the text for a bundle, with the tuple that a coverage refusal names
-unfoldable pub listingNaming : List ℕ → List ℕ → List ℕ
-listingNaming b args = listingOn (opening b) (modelOf b) args
+-- the text for a bundle
+unfoldable pub listing : List ℕ → List ℕ
+listing b = listingOn (opening b) (modelOf b)

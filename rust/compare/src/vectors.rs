@@ -8,10 +8,15 @@ use std::process::ExitCode;
 /// The files and the call that each is about; the fields of a case name the call where there are several.
 const FILES: [&str; 7] = ["opening", "check", "lookup", "witness", "sendtype", "run", "view"];
 
-/// Holds both implementations to the files of a folder.
+/// Holds both implementations to the files of a folder, which has one or more of them.
 pub fn compare(folder: &Path) -> ExitCode {
     let mut counts = Counts::default();
-    for file in FILES {
+    let present: Vec<_> = FILES.into_iter().filter(|file| folder.join(file).with_extension("jsonl").exists()).collect();
+    if present.is_empty() {
+        eprintln!("{}: no vectors", folder.display());
+        return ExitCode::from(2);
+    }
+    for file in present {
         let path = folder.join(file).with_extension("jsonl");
         let text = match std::fs::read_to_string(&path) {
             Ok(text) => text,

@@ -117,7 +117,8 @@ pub fn send_type(bundle: &[u8], scratch: &mut [u8], row: &mut [u8], function: u6
 }
 
 /// Checks the bundle: first the coverage of each signature, then each body. A refused bundle is named by its lowest
-/// broken signature, with a broken tuple of it, or by its lowest broken method.
+/// broken signature, with its first broken tuple (by class numbers, the leftmost argument turning slowest), or by its lowest
+/// broken method.
 ///
 /// ```
 /// use curiumtoad::{check, Fault, Finding, Verdict, SCRATCH};

@@ -1,6 +1,6 @@
 //! The worked cases of the rules.
 
-use builder::{chart_3, chart_4, chart_5, looping, Parts};
+use builder::{chart_3, chart_4, chart_5, looping, Parts, NEW};
 use plain::{Reply, ROW, SCRATCH, TEXT};
 
 fn reply(number: u8, named: &[u64]) -> Reply {
@@ -43,6 +43,23 @@ fn checks() {
     assert_eq!(checked(&chart_4()), reply(0, &[]));
     assert_eq!(checked(&chart_5()), reply(0, &[]));
     assert_eq!(checked(&looping()), reply(0, &[]));
+    assert_eq!(checked(&several_broken()), reply(12, &[0, 0, 1, 3, 0, 3]));
+}
+
+/// Three broken tuples: (1, 3) by 12, then (2, 1) by 10, then (3, 2) by 11.
+fn several_broken() -> Parts {
+    let mut parts = Parts::default();
+    parts.class(false, &[]);
+    for _ in 0..3 {
+        parts.class(true, &[0]);
+    }
+    let function = parts.function(2);
+    parts.signature(function, [0; 3], 0);
+    for specialisers in [[3, 0, 0], [0, 2, 0], [1, 1, 0], [1, 3, 0], [2, 3, 0]] {
+        parts.method(function, specialisers, 0, &[[NEW, 1]]);
+    }
+    parts.methods[3].declared = [1, 1, 0];
+    parts
 }
 
 #[test]

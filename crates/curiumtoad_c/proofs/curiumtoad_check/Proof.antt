@@ -10,9 +10,7 @@ returns : tie.Need-returns
 returns c =
     let f = c .before in
     let e = f .before .before .before .before in
-    let checks = e .check .ensures .0 in
-    let same = handed (reply nothing) (checks .verdict) (f .of-verdict .ensures) (c .give .ensures) in
-    (record { args = checks .args; names = checks .names; handed = same }, e .check .ensures .1)
+    (handed (reply nothing) (e .check .ensures .0) (f .of-verdict .ensures) (c .give .ensures), e .check .ensures .1)
 
 pub curiumtoad-check-spec : {M : Type 1} → statement M
 curiumtoad-check-spec =

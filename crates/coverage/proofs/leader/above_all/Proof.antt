@@ -1,6 +1,6 @@
 -- `coverage::leader::above_all` meets its contract. The loop's invariant: at the places before, the methods above the specialiser of m are all of the set.
 -- Assumes nothing.
-use Prim.Native.Nat.{ℕ, _-_, _≤_, _<_}
+use Prim.Native.Nat.{_-_, _≤_}
 use native.Mathlib.Omega.{arith}
 use mathlib.Core.Bool.{false≢true}
 use borrow.Author.Count.{below-none, below-more}

@@ -1,14 +1,14 @@
 -- `coverage::leader::leads` meets its contract: a method of the function that applies and is above all of the set is what lookup finds.
 -- Assumes nothing.
 use native.Mathlib.Omega.{arith}
-use mathlib.Core.Path.{_≡_, refl, sym, ap, _∙_}
+use mathlib.Core.Path.{_≡_, refl, sym, _∙_}
 use mathlib.Core.Bool.{false≢true}
 use lib.ListN.{length}
 use borrow.Author.Needs.{needs}
 use borrow.Author.Tests.{not-false}
 use Rattle.rules.specs.Model.{modelOf}
 use Rattle.rules.specs.Lookup.{applies}
-use Rattle.layout.proofs.Opened.{wellformed-of, counts-of}
+use Rattle.layout.proofs.Opened.{wellformed-of}
 use Rattle.dispatch.specs.Places.{OfArity}
 use Rattle.dispatch.proofs.Asked.{of-arity, specialisers-long, specialisers-classes, comparable, compared}
 use Rattle.coverage.proofs.Narrowing.{filled-arguments, filling-places}

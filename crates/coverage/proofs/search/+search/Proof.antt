@@ -16,7 +16,7 @@ use Rattle.rules.specs.Model.{Model, modelOf}
 use Rattle.rules.proofs.Lists.{getD-mem}
 use Rattle.layout.proofs.Opened.{placed-of, counts-of, wellformed-of}
 use Rattle.dispatch.proofs.Asked.{class-below}
-use Rattle.coverage.specs.Search.{candidateClass, brokenCompletion, Filling, Ends}
+use Rattle.coverage.specs.Search.{candidateClass, brokenCompletion, Ends}
 use Rattle.coverage.proofs.Leading.{alike-left}
 use Rattle.coverage.proofs.Narrowing.{chosen-more, filling-arguments, filling-places, filling-kept, filling-more}
 use Rattle.coverage.proofs.Searching.{remaining, search-opens, search-ends, no-place, places-kept, class-skipped, class-covered, class-breaks}
@@ -127,7 +127,7 @@ module _ (t : ℕ) where
       let e = c .before in
       let p = e .before .before .before .before .pre .1 in
       record {
-        within = omega arith;
+        within = omega (arith, wellformed-of (p .0 .opened) .classes-some);
         few = omega arith;
         same = refl;
         kept = refl;

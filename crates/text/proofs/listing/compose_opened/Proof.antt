@@ -15,7 +15,7 @@ verdict-line-requires c κs =
     let s = v .before .before .before .before .before in
     let at = u .counts-line .ensures in (
       opened-of (s .pre .0),
-      (verdict-named (s .pre .0) _ _ (v .before .before .matrix .ensures) (v .check .ensures .0), omega (arith, at .bound, at .same, s .pre .1)),
+      (verdict-named (s .pre .0) _ (v .check .result) (v .before .before .matrix .ensures) (v .check .ensures .0), omega (arith, at .bound, at .same, s .pre .1)),
     )
 
 returns : tie.Need-returns
@@ -24,7 +24,7 @@ returns c =
     let u = t .before .before .before .before in
     let v = u .before .before .before in
     let s = v .before .before .before .before .before in (
-      composed-opened (s .pre .0) _ _ _ _ _ _ _ (v .before .before .matrix .ensures) (v .check .ensures .0) (s .pre .1) (u .counts-line .ensures) (t .verdict-line .ensures),
+      composed-opened (s .pre .0) _ (v .check .result) _ _ _ _ _ (v .before .before .matrix .ensures) (v .check .ensures .0) (s .pre .1) (u .counts-line .ensures) (t .verdict-line .ensures),
       t .verdict-line .ensures .same ∙ u .counts-line .ensures .same,
     )
 
