@@ -198,8 +198,9 @@ LATER = ["requests/01"]
 
 
 def vectors(folder, name):
-    for path in [folder / name, *(folder / later / name for later in LATER)]:
-        for line in path.read_text().splitlines() if path.exists() else []:
+    more = [folder / later / name for later in LATER]
+    for path in [folder / name, *(path for path in more if path.exists())]:
+        for line in path.read_text().splitlines():
             entry = json.loads(line)
             yield entry, bytes.fromhex(entry["bundle"])
 
