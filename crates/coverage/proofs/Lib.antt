@@ -1,9 +1,5 @@
 pub mod Leading
-pub mod Marks
 pub mod Narrowing
-pub mod Orders
-pub mod Rows
 pub mod Searching
 pub mod Trying
 pub mod Violations
-pub mod Words

@@ -23,7 +23,7 @@ use Rattle.layout.specs.Opened.{Opened}
 use Rattle.layout.specs.declared.bundle.Bundle.{Bundle}
 use Rattle.layout.proofs.Opened.{wellformed-of, counts-of}
 use Rattle.dispatch.specs.Places.{Arguments}
-use Rattle.coverage.specs.Sets.{inSet, rowAt, methodAt, classOf, Ordered, Tabled}
+use Rattle.method_sets.specs.Sets.{inSet, rowAt, methodAt, classOf, Ordered, Tabled}
 use Rattle.coverage.specs.Search.{candidateClass, Filling}
 
 module _ (M : Model) where
@@ -49,36 +49,34 @@ module _ (M : Model) where
 pub chosen-more : (chosen : List ℕ) (place k : ℕ) → place < length chosen → take (place + 1) (set chosen place k) ≡ take place chosen ++ (k ∷ [])
 chosen-more chosen place k h = rw (add-one place, take-suc-set chosen place k h)
 
-module _ {b : List ℕ} {t : Bundle} (o : Opened b t) {s f : ℕ} {order : List ℕ} where
+module _ {b : List ℕ} {t : Bundle} (o : Opened b t) {s : ℕ} {order : List ℕ} where
   -- with no place filled all methods of the function are left
-  pub filling-none : {chosen set₀ : List ℕ} → s < t .signatures → f ≡ modelOf b .sigFunction s → length chosen ≡ modelOf b .arity f
-      → ((i : ℕ) → i < t .methods → inSet set₀ 0 i ≡ eqb (modelOf b .function (methodAt order i)) f) → Filling (modelOf b) s f 0 chosen order set₀
+  pub filling-none : {f : ℕ} {chosen set₀ : List ℕ} → s < t .signatures → f ≡ modelOf b .sigFunction s → length chosen ≡ modelOf b .arity f
+      → ((i : ℕ) → i < t .methods → inSet set₀ 0 i ≡ eqb (modelOf b .function (methodAt order i)) f) → Filling (modelOf b) s 0 chosen order set₀
   unfolding present every
   filling-none h e a m =
       let counts = counts-of o in
       record {
         signature = omega arith;
-        ofSignature = e;
-        arity = a;
+        arity = a ∙ ap (modelOf b .arity) e;
         within = omega arith;
         classes = refl;
-        methods = λ i l. m i (omega arith) ∙ sym (left-none (modelOf b) f (methodAt order i));
+        methods = λ i l. m i (omega arith) ∙ ap (eqb (modelOf b .function (methodAt order i))) e ∙ sym (left-none (modelOf b) (modelOf b .sigFunction s) (methodAt order i));
       }
 
-  module _ {place : ℕ} {chosen set₀ : List ℕ} (g : Filling (modelOf b) s f place chosen order set₀) where
+  module _ {place : ℕ} {chosen set₀ : List ℕ} (g : Filling (modelOf b) s place chosen order set₀) where
     -- the signature has a class for each of the arguments, and no more than the layout has places
     pub filling-arguments : length (modelOf b .sigArgs s) ≡ length chosen
-    filling-arguments = wellformed-of o .sig-places s (g .signature) ∙ ap (modelOf b .arity) (sym (g .ofSignature)) ∙ sym (g .arity)
+    filling-arguments = wellformed-of o .sig-places s (g .signature) ∙ sym (g .arity)
 
     pub filling-places : length chosen ≤ places
-    filling-places = omega (arith, g .arity, wellformed-of o .arity-limit f (rw (g .ofSignature) (wellformed-of o .sig-function s (g .signature))))
+    filling-places = omega (arith, g .arity, wellformed-of o .arity-limit (modelOf b .sigFunction s) (wellformed-of o .sig-function s (g .signature)))
 
     -- the same places after a search that keeps them
-    pub filling-kept : (after : List ℕ) → length after ≡ length chosen → take place after ≡ take place chosen → Filling (modelOf b) s f place after order set₀
+    pub filling-kept : (after : List ℕ) → length after ≡ length chosen → take place after ≡ take place chosen → Filling (modelOf b) s place after order set₀
     filling-kept after l e =
         record {
           signature = g .signature;
-          ofSignature = g .ofSignature;
           arity = l ∙ g .arity;
           within = omega (arith, g .within);
           classes = rw e (g .classes);
@@ -88,10 +86,11 @@ module _ {b : List ℕ} {t : Bundle} (o : Opened b t) {s f : ℕ} {order : List 
     -- a place more, with the methods left narrowed
     pub filling-more : {admits : List ℕ} → Ordered (modelOf b) order → Tabled false (modelOf b) order admits → (k : ℕ) {next : List ℕ} → place < length chosen → k < t .classes
         → ((i : ℕ) → i < maxMethods → inSet next 0 i ≡ (inSet set₀ 0 i && inSet admits (rowAt place k) i))
-        → Filling (modelOf b) s f (place + 1) (set chosen place k) order next
+        → Filling (modelOf b) s (place + 1) (set chosen place k) order next
     unfolding classOf
     filling-more d table k {next} h l e =
         let M = modelOf b in
+        let f = M .sigFunction s in
         let w = wellformed-of o in
         let counts = counts-of o in
         let long = length-take-le place chosen (omega arith) in
@@ -105,7 +104,6 @@ module _ {b : List ℕ} {t : Bundle} (o : Opened b t) {s f : ℕ} {order : List 
         ∙ ap (λ (xs : List ℕ). left M f xs m) (sym (chosen-more chosen place k h)) in
         record {
           signature = g .signature;
-          ofSignature = g .ofSignature;
           arity = length-set chosen place k ∙ g .arity;
           within = omega (arith, length-set chosen place k);
           classes = rw (chosen-more chosen place k h) (present-more M (take place chosen) k (g .classes) (omega arith));
@@ -113,10 +111,10 @@ module _ {b : List ℕ} {t : Bundle} (o : Opened b t) {s f : ℕ} {order : List 
         }
 
   -- with every place filled the tuple is one of arguments
-  pub filled-arguments : {chosen set₀ : List ℕ} → Filling (modelOf b) s f (length chosen) chosen order set₀ → Arguments (modelOf b) (modelOf b .sigFunction s) chosen
+  pub filled-arguments : {chosen set₀ : List ℕ} → Filling (modelOf b) s (length chosen) chosen order set₀ → Arguments (modelOf b) (modelOf b .sigFunction s) chosen
   filled-arguments {chosen} g =
       record {
         function = wellformed-of o .sig-function s (g .signature);
-        arity = g .arity ∙ ap (modelOf b .arity) (g .ofSignature);
+        arity = g .arity;
         classes = rw (take-length chosen) at (g .classes);
       }

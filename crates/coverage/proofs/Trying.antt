@@ -48,13 +48,11 @@ module _ {M : Model} {s : ℕ} {filled rest : List ℕ} where
       one a (inr m) = rw (List·Memᴰ·eq-of-singleton m) e
 
 -- a class alike to one of them is in no broken tuple either
-pub alike-covered : {M : Model} {s f place : ℕ} {chosen order set : List ℕ} → Filling M s f place chosen order set → {rest tried : List ℕ}
-    → Tried M s (take place chosen) rest tried → (a k : ℕ) → List·Memᴰ a tried → alikeAt M place (applicableSoFar M f (take place chosen)) a k ≡ true
+pub alike-covered : {M : Model} {s place : ℕ} {chosen order set : List ℕ} → Filling M s place chosen order set → {rest tried : List ℕ}
+    → Tried M s (take place chosen) rest tried → (a k : ℕ) → List·Memᴰ a tried → alikeAt M place (applicableSoFar M (M .sigFunction s) (take place chosen)) a k ≡ true
     → brokenCompletion M s (take place chosen ++ (k ∷ [])) rest ≡ none
-alike-covered {M} {s} {f} {place} {chosen} g {rest} d a k m e =
+alike-covered {M} {s} {place} {chosen} g {rest} d a k m e =
     let filled = take place chosen in
     let long : place ≡ length filled = sym (length-take-le place chosen (g .within)) in
-    let same : alikeAt M (length filled) (applicableSoFar M (M .sigFunction s) filled) a k ≡ true =
-    subst (λ (x : ℕ). alikeAt M (length filled) (applicableSoFar M x filled) a k ≡ true) (g .ofSignature)
-    (subst (λ (i : ℕ). alikeAt M i (applicableSoFar M f filled) a k ≡ true) long e) in
+    let same = subst (λ (i : ℕ). alikeAt M i (applicableSoFar M (M .sigFunction s) filled) a k ≡ true) long e in
     sym (alike-completed M s filled rest a k same) ∙ d .covered a m

@@ -18,7 +18,7 @@ use Rattle.coverage.specs.declared.search.SearchEnd.the-variants.{Exhaus
 use Rattle.coverage.specs.declared.search.Coverage as coverage-type
 use Rattle.coverage.specs.declared.search.Coverage.the-variants.{Covered, Broken}
 use Rattle.coverage_rule.specs.Judgements.{judgementOf}
-use Rattle.coverage.specs.Sets.{inSet, methodAt}
+use Rattle.method_sets.specs.Sets.{inSet, methodAt}
 
 -- k is a class to try at a place where the signature has class c
 abbrev pub candidateClass : Model → ℕ → ℕ → Bool
@@ -28,14 +28,13 @@ candidateClass M c k = concreteClass M k && subclass M k c
 unfoldable pub brokenCompletion : Model → ℕ → List ℕ → List ℕ → Option (List ℕ)
 brokenCompletion M s filled rest = first (λ t. failing (judge M s (filled ++ t))) (tuples M rest)
 
--- The first places of a tuple of signature s, whose function is f, are filled; the set holds the methods that are left.
-pub record Filling (M : Model) (s f place : ℕ) (chosen order set : List ℕ) : Type 0 where
+-- The first places of a tuple of signature s are filled; the set holds the methods that are left.
+pub record Filling (M : Model) (s place : ℕ) (chosen order set : List ℕ) : Type 0 where
   pub signature : s < M .signatures
-  pub ofSignature : f ≡ M .sigFunction s
-  pub arity : length chosen ≡ M .arity f
+  pub arity : length chosen ≡ M .arity (M .sigFunction s)
   pub within : place ≤ length chosen
   pub classes : present M (take place chosen) ≡ true
-  pub methods : (i : ℕ) → i < M .methods → inSet set 0 i ≡ left M f (take place chosen) (methodAt order i)
+  pub methods : (i : ℕ) → i < M .methods → inSet set 0 i ≡ left M (M .sigFunction s) (take place chosen) (methodAt order i)
 
 -- A search that leaves the tuple in `after` ends: no completion is broken, or that one is, with its judgement.
 abbrev pub Ends : Model → ℕ → List ℕ → List ℕ → List ℕ → SearchEnd → Type 0

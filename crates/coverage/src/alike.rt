@@ -1,21 +1,21 @@
 // Classes that no method left tells apart at a place of a tuple: one of them is enough to try.
-use crate::sets::TABLE_WORDS;
-use crate::sets::WORDS;
-use crate::sets::row_at;
-use crate::sets::same_within;
 use layout::bundle::Bundle;
+use method_sets::sets::TABLE_WORDS;
+use method_sets::sets::WORDS;
+use method_sets::sets::row_at;
+use method_sets::sets::same_within;
 ghost use mathlib.Core.Path.{_≡_};
 ghost use mathlib.Core.Bool.{true};
 ghost use Prim.Native.Nat.{ℕ, _<_, _≤_};
 ghost use lib.ListN.{length, getD};
 ghost use Rattle.rules.specs.Layout.{places, maxClasses};
-ghost use Rattle.coverage.specs.Sets.{AlikeIn, SomeAlike};
+ghost use Rattle.method_sets.specs.Sets.{AlikeIn, SomeAlike};
 
 // Whether no method of the set tells classes a and k apart at the place, neither by its specialiser nor by its declared class.
 fn alike(
     admits: &[u64; TABLE_WORDS],
     holds: &[u64; TABLE_WORDS],
-    set: [u64; WORDS],
+    set: &[u64; WORDS],
     place: usize,
     a: usize,
     k: usize,
@@ -23,7 +23,7 @@ fn alike(
     requires { ⌜ place < places ⌝ }
     requires { ⌜ a < maxClasses ⌝ }
     requires { ⌜ k < maxClasses ⌝ }
-    ensures { λ r. ⌜ (r ≡ true → AlikeIn (now (admits .entry)) (now (holds .entry)) set place a k) ⌝ }
+    ensures { λ r. ⌜ (r ≡ true → AlikeIn (now (admits .entry)) (now (holds .entry)) (now (set .entry)) place a k) ⌝ }
 {
     let one = row_at(place, a);
     let other = row_at(place, k);
@@ -38,7 +38,7 @@ fn alike(
 pub(crate) fn tried_alike(
     admits: &[u64; TABLE_WORDS],
     holds: &[u64; TABLE_WORDS],
-    set: [u64; WORDS],
+    set: &[u64; WORDS],
     place: usize,
     is_last: bool,
     tried: &[usize; Bundle::CLASSES],
@@ -50,7 +50,7 @@ pub(crate) fn tried_alike(
     requires { ⌜ tries ≤ maxClasses ⌝ }
     requires { ⌜ ((j : ℕ) → j < tries → getD (now tried) j 0 < maxClasses) ⌝ }
     requires { ⌜ k < maxClasses ⌝ }
-    ensures { λ r. ⌜ (r ≡ true → SomeAlike (now (admits .entry)) (now (holds .entry)) set place (now (tried .entry)) tries k) ⌝ }
+    ensures { λ r. ⌜ (r ≡ true → SomeAlike (now (admits .entry)) (now (holds .entry)) (now (set .entry)) place (now (tried .entry)) tries k) ⌝ }
 {
     let mut i = tries;
     while 0 < i {

@@ -1,38 +1,36 @@
-// The method that leads a set, where the first of it does.
-use crate::sets::TABLE_WORDS;
-use crate::sets::WORDS;
-use crate::sets::row_at;
-use crate::sets::within;
-use dispatch::places::each_under;
-use dispatch::tuple::specialisers;
+// The method that leads a set: one of its methods, at least as specific as every one of them.
+use dispatch::matrix::under;
 use layout::bundle::Bundle;
-use layout::field::function;
 use layout::field::specialiser;
+use method_sets::sets::TABLE_WORDS;
+use method_sets::sets::WORDS;
+use method_sets::sets::first_position;
+use method_sets::sets::row_at;
+use method_sets::sets::within;
 ghost use mathlib.Core.Path.{_≡_};
-ghost use mathlib.Core.Bool.{true, false};
+ghost use mathlib.Core.Bool.{true};
 ghost use Prim.Native.Nat.{_<_, _≤_};
-ghost use lib.ListN.{length};
+ghost use lib.ListN.{getD};
 ghost use Rattle.rules.specs.Layout.{places};
 ghost use Rattle.rules.specs.Model.{modelOf};
-ghost use Rattle.rules.specs.Lookup.{found, lookup};
+ghost use Rattle.rules.specs.Subclass.{subclass};
 ghost use Rattle.layout.specs.Opened.{Opened};
 ghost use Rattle.dispatch.specs.Prepared.{Prepared};
-ghost use Rattle.coverage.specs.Sets.{AboveAll, Ordered, Tabled};
-ghost use Rattle.coverage.specs.Search.{Filling};
+ghost use Rattle.method_sets.specs.Sets.{AboveAll, LedBy, Ordered};
 
 // Whether method m is at least as specific as every method of the set: at each place the methods above its specialiser there are all of them.
 fn above_all(
     bytes: &[u8],
     b: Bundle,
     admits: &[u64; TABLE_WORDS],
-    set: [u64; WORDS],
+    set: &[u64; WORDS],
     n: usize,
     m: usize,
 ) -> bool
     requires { ⌜ Opened (now bytes) b ⌝ }
     requires { ⌜ n ≤ places ⌝ }
     requires { ⌜ m < b .methods ⌝ }
-    ensures { λ r. ⌜ (r ≡ true → AboveAll (modelOf (now (bytes .entry))) (now (admits .entry)) set n m) ⌝ }
+    ensures { λ r. ⌜ (r ≡ true → AboveAll (modelOf (now (bytes .entry))) (now (admits .entry)) (now (set .entry)) n m) ⌝ }
 {
     let mut place = 0;
     while place < n {
@@ -45,32 +43,55 @@ fn above_all(
     true
 }
 
-// Whether method m is what lookup finds for a tuple, with the set of the methods that apply: it is one of them and at least as specific as all.
-pub(crate) fn leads(
+// The lead of the set, whose methods have n places: the one handed down, or else the first of the set if it leads. The count of methods stands for none.
+pub(crate) fn lead_of(
+    bytes: &[u8],
+    b: Bundle,
+    order: &[usize; Bundle::METHODS],
+    admits: &[u64; TABLE_WORDS],
+    set: &[u64; WORDS],
+    n: usize,
+    lead: usize,
+) -> usize
+    requires { ⌜ Opened (now bytes) b ⌝ }
+    requires { ⌜ Ordered (modelOf (now bytes)) (now order) ⌝ }
+    requires { ⌜ n ≤ places ⌝ }
+    requires { ⌜ LedBy (modelOf (now bytes)) (now order) (now admits) (now set) n lead ⌝ }
+    ensures { λ r. ⌜ LedBy (modelOf (now (bytes .entry))) (now (order .entry)) (now (admits .entry)) (now (set .entry)) n r ⌝ }
+{
+    if lead < b.methods {
+        return lead;
+    }
+    let at = first_position(set);
+    if b.methods <= at {
+        return b.methods;
+    }
+    let m = order[at] % Bundle::METHODS;
+    if !above_all(bytes, b, admits, set, n, m) {
+        return b.methods;
+    }
+    m
+}
+
+// The lead of the methods of a set that apply to a class at a place: the set's own where it applies too, and else none.
+pub(crate) fn lead_with(
     bytes: &[u8],
     b: Bundle,
     scratch: &[u8],
-    s: usize,
-    f: usize,
-    chosen: &[u8],
-    order: &[usize; Bundle::METHODS],
-    admits: &[u64; TABLE_WORDS],
-    set: [u64; WORDS],
-    m: usize,
-) -> bool
+    place: usize,
+    class: usize,
+    lead: usize,
+) -> usize
     requires { ⌜ Prepared (now bytes) b (now scratch) ⌝ }
-    requires { ⌜ Ordered (modelOf (now bytes)) (now order) ⌝ }
-    requires { ⌜ Tabled false (modelOf (now bytes)) (now order) (now admits) ⌝ }
-    requires { ⌜ Filling (modelOf (now bytes)) s f (length (now chosen)) (now chosen) (now order) set ⌝ }
-    requires { ⌜ m < b .methods ⌝ }
-    ensures { λ r. ⌜ (r ≡ true → lookup (modelOf (now (bytes .entry))) f (now (chosen .entry)) ≡ found m) ⌝ }
+    requires { ⌜ place < places ⌝ }
+    requires { ⌜ class < b .classes ⌝ }
+    ensures { λ r. ⌜ (r < b .methods → (r ≡ lead) × (subclass (modelOf (now (bytes .entry))) class (getD (modelOf (now (bytes .entry)) .specialisers lead) place 0) ≡ true)) ⌝ }
 {
-    if function(bytes, b, m) != f {
-        return false;
+    if b.methods <= lead {
+        return lead;
     }
-    let n = chosen.len();
-    if !each_under(scratch, chosen, specialisers(bytes, b, n, m)) {
-        return false;
+    if under(scratch, class, specialiser(bytes, b, lead, place)) {
+        return lead;
     }
-    above_all(bytes, b, admits, set, n, m)
+    b.methods
 }

@@ -2,15 +2,8 @@
 // an earlier part of the search has settled is not searched again: a class that no method left tells from a tried one, and a signature that an earlier one
 // implies.
 use crate::alike::tried_alike;
-use crate::leader::leads;
-use crate::order::order_methods;
-use crate::sets::TABLE_WORDS;
-use crate::sets::WORDS;
-use crate::sets::both;
-use crate::sets::first_position;
-use crate::sets::row_at;
-use crate::table::fill_table;
-use crate::table::methods_of;
+use crate::leader::lead_of;
+use crate::leader::lead_with;
 use coverage_rule::implied::implied;
 use coverage_rule::judge::Judgement;
 use coverage_rule::judge::fails;
@@ -24,6 +17,13 @@ use layout::field::arity;
 use layout::field::is_concrete;
 use layout::field::sig_arg;
 use layout::field::sig_function;
+use method_sets::order::order_methods;
+use method_sets::sets::TABLE_WORDS;
+use method_sets::sets::WORDS;
+use method_sets::sets::both;
+use method_sets::sets::row_at;
+use method_sets::table::fill_table;
+use method_sets::table::methods_of;
 ghost use mathlib.Core.Path.{_≡_};
 ghost use mathlib.Core.Bool.{false};
 ghost use mathlib.Core.List.{[]};
@@ -33,7 +33,7 @@ ghost use Rattle.rules.specs.Model.{modelOf};
 ghost use Rattle.rules.specs.Coverage.{judge};
 ghost use Rattle.dispatch.specs.Prepared.{Prepared};
 ghost use Rattle.coverage_rule.specs.Judgements.{judgementOf};
-ghost use Rattle.coverage.specs.Sets.{Ordered, Tabled, Tables};
+ghost use Rattle.method_sets.specs.Sets.{LedBy, Ordered, Tabled, Tables};
 ghost use Rattle.coverage.specs.Search.{candidateClass, Filling, Ends, coverageOf, violationIn, firstViolation};
 
 // The search among the tuples that the filled places begin: none breaks the rule, or it stopped at one.
@@ -61,34 +61,33 @@ fn is_candidate(bytes: &[u8], b: Bundle, scratch: &[u8], c: usize, k: usize) -> 
     under(scratch, k, c)
 }
 
-// The judgement of a tuple with every place filled. Where the first method of the set leads, lookup finds it; where it does not, no method leads, and the rule is
-// asked as for any tuple.
+// The judgement of a tuple with every place filled. A method that leads the set is what lookup finds; where there is none, the rule is asked as for any tuple.
 fn judge_filled(
     bytes: &[u8],
     b: Bundle,
     scratch: &[u8],
     s: usize,
-    f: usize,
     chosen: &[u8],
     order: &[usize; Bundle::METHODS],
     admits: &[u64; TABLE_WORDS],
-    set: [u64; WORDS],
+    set: &[u64; WORDS],
+    lead: usize,
 ) -> Judgement
     requires { ⌜ Prepared (now bytes) b (now scratch) ⌝ }
     requires { ⌜ Ordered (modelOf (now bytes)) (now order) ⌝ }
     requires { ⌜ Tabled false (modelOf (now bytes)) (now order) (now admits) ⌝ }
-    requires { ⌜ Filling (modelOf (now bytes)) s f (length (now chosen)) (now chosen) (now order) set ⌝ }
+    requires { ⌜ Filling (modelOf (now bytes)) s (length (now chosen)) (now chosen) (now order) (now set) ⌝ }
+    requires { ⌜ LedBy (modelOf (now bytes)) (now order) (now admits) (now set) (length (now chosen)) lead ⌝ }
     ensures { λ r. ⌜ judgementOf r ≡ judge (modelOf (now (bytes .entry))) s (now (chosen .entry)) ⌝ }
 {
-    let at = first_position(set);
-    if b.methods <= at {
-        return judge(bytes, b, scratch, s, chosen);
+    if lead < b.methods {
+        return judge_found(bytes, b, scratch, s, chosen, Found::Method(lead));
     }
-    let m = order[at] % Bundle::METHODS;
-    if !leads(bytes, b, scratch, s, f, chosen, order, admits, set, m) {
-        return judge(bytes, b, scratch, s, chosen);
+    let m = lead_of(bytes, b, order, admits, set, chosen.len(), lead);
+    if m < b.methods {
+        return judge_found(bytes, b, scratch, s, chosen, Found::Method(m));
     }
-    judge_found(bytes, b, scratch, s, chosen, Found::Method(m))
+    judge(bytes, b, scratch, s, chosen)
 }
 
 // The search with every place filled.
@@ -97,19 +96,20 @@ fn search_filled(
     b: Bundle,
     scratch: &[u8],
     s: usize,
-    f: usize,
     chosen: &[u8],
     order: &[usize; Bundle::METHODS],
     admits: &[u64; TABLE_WORDS],
-    set: [u64; WORDS],
+    set: &[u64; WORDS],
+    lead: usize,
 ) -> SearchEnd
     requires { ⌜ Prepared (now bytes) b (now scratch) ⌝ }
     requires { ⌜ Ordered (modelOf (now bytes)) (now order) ⌝ }
     requires { ⌜ Tabled false (modelOf (now bytes)) (now order) (now admits) ⌝ }
-    requires { ⌜ Filling (modelOf (now bytes)) s f (length (now chosen)) (now chosen) (now order) set ⌝ }
+    requires { ⌜ Filling (modelOf (now bytes)) s (length (now chosen)) (now chosen) (now order) (now set) ⌝ }
+    requires { ⌜ LedBy (modelOf (now bytes)) (now order) (now admits) (now set) (length (now chosen)) lead ⌝ }
     ensures { λ r. ⌜ Ends (modelOf (now (bytes .entry))) s (now (chosen .entry)) [] (now (chosen .entry)) r ⌝ }
 {
-    let j = judge_filled(bytes, b, scratch, s, f, chosen, order, admits, set);
+    let j = judge_filled(bytes, b, scratch, s, chosen, order, admits, set, lead);
     if fails(j) {
         return SearchEnd::Stopped(j);
     }
@@ -117,31 +117,34 @@ fn search_filled(
 }
 
 // The search with the places before `place` filled, and the set of the methods that are left: the classes of the next one are tried in number order, and the
-// first broken tuple ends it. A class counts as tried once its search found nothing.
+// first broken tuple ends it. A class counts as tried once its search found nothing. A method that leads the set leads each part of it that has the method, and
+// is handed down there.
 fn search(
     bytes: &[u8],
     b: Bundle,
     scratch: &[u8],
     s: usize,
-    f: usize,
     place: usize,
     chosen: &mut [u8],
     order: &[usize; Bundle::METHODS],
     admits: &[u64; TABLE_WORDS],
     holds: &[u64; TABLE_WORDS],
-    set: [u64; WORDS],
+    set: &[u64; WORDS],
+    lead: usize,
 ) -> SearchEnd
     requires { ⌜ Prepared (now bytes) b (now scratch) ⌝ }
     requires { ⌜ Tables (modelOf (now bytes)) (now order) (now admits) (now holds) ⌝ }
-    requires { ⌜ Filling (modelOf (now bytes)) s f place (now chosen) (now order) set ⌝ }
+    requires { ⌜ Filling (modelOf (now bytes)) s place (now chosen) (now order) (now set) ⌝ }
+    requires { ⌜ LedBy (modelOf (now bytes)) (now order) (now admits) (now set) (length (now chosen)) lead ⌝ }
     ensures { λ r. ⌜ length (now (chosen .exit)) ≡ length (now (chosen .entry)) ⌝ }
     ensures { λ r. ⌜ take place (now (chosen .exit)) ≡ take place (now (chosen .entry)) ⌝ }
     ensures { λ r. ⌜ Ends (modelOf (now (bytes .entry))) s (take place (now (chosen .entry))) (drop place (modelOf (now (bytes .entry)) .sigArgs s)) (now (chosen .exit)) r ⌝ }
 {
     let n = chosen.len();
     if place == n {
-        return search_filled(bytes, b, scratch, s, f, chosen, order, admits, set);
+        return search_filled(bytes, b, scratch, s, chosen, order, admits, set, lead);
     }
+    let led = lead_of(bytes, b, order, admits, set, n, lead);
     let c = sig_arg(bytes, b, s, place);
     let classes = b.classes;
     let is_last = place + 1 == n;
@@ -160,18 +163,19 @@ fn search(
         tried[tries] = class;
         chosen[place] = class as u8;
         let left = both(set, admits, row_at(place, class));
+        let next = lead_with(bytes, b, scratch, place, class, led);
         match search(
             bytes,
             b,
             scratch,
             s,
-            f,
             place + 1,
             chosen,
             order,
             admits,
             holds,
-            left,
+            &left,
+            next,
         ) {
             SearchEnd::Exhausted => {
                 tries += 1;
@@ -207,13 +211,13 @@ fn broken_tuple(
         b,
         scratch,
         s,
-        f,
         0,
         &mut chosen[..n],
         order,
         admits,
         holds,
-        set,
+        &set,
+        b.methods,
     ) {
         SearchEnd::Exhausted => Coverage::Covered,
         SearchEnd::Stopped(j) => Coverage::Broken(s, Send::of(f, &chosen[..n]), j),

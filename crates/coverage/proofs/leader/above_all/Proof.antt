@@ -7,7 +7,7 @@ use borrow.Author.Count.{below-none, below-more}
 use borrow.Author.Tests.{not-false}
 use Rattle.rules.specs.Model.{modelOf}
 use Rattle.layout.proofs.Opened.{placed-of}
-use Rattle.coverage.specs.Sets.{AboveAll}
+use Rattle.method_sets.specs.Sets.{AboveAll}
 use Rattle.coverage.proofs.leader.above_all.Statement.{statement}
 use Rattle.coverage.proofs.leader.above_all.Tie as tie
 

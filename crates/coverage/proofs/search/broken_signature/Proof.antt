@@ -9,7 +9,7 @@ use borrow.Author.Needs.{needs}
 use Rattle.rules.specs.Model.{modelOf}
 use Rattle.rules.specs.Coverage.{brokenTuple, isSome}
 use Rattle.layout.proofs.Opened.{wellformed-of, counts-of}
-use Rattle.coverage.specs.Sets.{Tables}
+use Rattle.method_sets.specs.Sets.{Tables}
 use Rattle.coverage.specs.Search.{coverageOf}
 use Rattle.coverage.proofs.Violations.{signature-holds, signature-implied, signature-breaks, signatures-hold}
 use Rattle.coverage.proofs.search.broken_signature.Statement.{statement}

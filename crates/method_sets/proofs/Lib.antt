@@ -1,0 +1,4 @@
+pub mod Marks
+pub mod Orders
+pub mod Rows
+pub mod Words
