@@ -1,6 +1,6 @@
 #!/usr/bin/env python3
 """Make the sample bundles: the files of this folder, the table of its README.md and, for those that the worked cases use, their byte lists in
-crates/rules/specs/Samples.antt.
+crates/rules/specs/Samples.antt. The charts are those that tools/rules.py gives.
 
 usage: bundles/make.py          write them
        bundles/make.py --check  write nothing; say which differ, and exit with 1 if any does
@@ -14,6 +14,7 @@ ROOT = HERE.parent
 sys.dont_write_bytecode = True
 sys.path.insert(0, str(ROOT / "tools"))
 from made import write_or_check  # noqa: E402
+from rules import chart_text  # noqa: E402
 
 LISTS = ROOT / "crates" / "rules" / "specs" / "Samples.antt"
 TABLE = HERE / "README.md"
@@ -107,7 +108,7 @@ SAMPLES = {
 }
 
 
-# Further ways to break a rule, and the most classes that there may be.
+# Further ways to break a rule, the most classes that there may be, and two charts.
 FURTHER = {
     "128-classes": bundle(ALONE + [(CONCRETE, [0])] * 127),
     "part-of-a-class": joined(CLASS + b"\0", b"", b"", b"", b"", b""),
@@ -131,7 +132,15 @@ FURTHER = {
         [(ABSTRACT, []), (CONCRETE, [0]), (CONCRETE, [0])], [1], [(0, [1], 0), (0, [1], 1)], [(0, [1], [1], 2, [(NEW, 2)])]),
     "missing-argument": bundle(
         ALONE, [1, 0], [(0, [0], 0), (1, [], 0)], [(0, [0], [0], 0, [(ARG, 0)]), (1, [], [], 0, [(SEND, 0)])]),
+    "no-concrete-class": bundle([(ABSTRACT, [])], [2], [(0, [0, 0], 0)], [(0, [0, 0], [0, 0], 0, [(ARG, 0)])]),
+    # A method for each pair of the classes 1 to 10. Class 11 is under two of them and has two methods of its own; none applies to class 12.
+    "102-methods": bundle(
+        [(ABSTRACT, [])] + [(CONCRETE, [0])] * 10 + [(CONCRETE, [9, 10]), (CONCRETE, [0])], [2], [],
+        [(0, args, args, 0, [(ARG, 0)]) for args in [*([i, j] for i in range(1, 11) for j in range(1, 11)), [11, 9], [11, 11]]]),
 }
+
+# The samples whose charts, of function 0, are among the files.
+CHARTED = ["chart-3", "chart-4", "chart-5", "no-concrete-class", "102-methods"]
 
 # What each sample is, and the lines that the listing program has to print for it. They are written down from the rules and not worked out by any
 # program.
@@ -157,6 +166,12 @@ SHOWN = {
     "abstract-argument": (
         "accepted: the signature's own class is abstract, so it is no argument",
         ["classes 2 functions 1 signatures 1 methods 1", "accepted"]),
+    "no-concrete-class": (
+        "accepted: no class is concrete, so the chart has its head alone",
+        ["classes 1 functions 1 signatures 1 methods 1", "accepted"]),
+    "102-methods": (
+        "accepted: its chart has `*`, `-` and methods of three digits, and there is no signature to cover a send",
+        ["classes 13 functions 1 signatures 0 methods 102", "accepted"]),
     "23-bytes": (
         "refused by 1: a byte short of a directory",
         ["refused 1"]),
@@ -286,7 +301,9 @@ def main():
     for name, content in samples.items():
         wanted[HERE / f"{name}.bundle"] = content
         wanted[HERE / f"{name}.listing"] = listed(name).encode()
-    found = [path for path in HERE.iterdir() if path.suffix in (".bundle", ".listing")]
+    for name in CHARTED:
+        wanted[HERE / f"{name}.chart"] = chart_text(samples[name], 0)
+    found = [path for path in HERE.iterdir() if path.suffix in (".bundle", ".listing", ".chart")]
     sys.exit(write_or_check(ROOT, wanted, "--check" in sys.argv[1:], found))
 
 

@@ -11,14 +11,18 @@
  * include/example.c is a program to begin with.
  *
  * A function returns CURIUMTOAD_OK where the call answers, else the number of the refusal or of the run's ending. Each call writes all eight values;
- * those that are not named below are 0. Numbers are tried in the order 1 to 9, 19, 20, 18, then the rest.
+ * those that are not named below are 0. Numbers are tried in the order 1 to 9, 19, 20, 18, then the rest; those of a chart, 21, 22 and 23, in this order.
  *
  * bundle is the bundle's bytes, and size their count; it is never written. A function, a class, a signature or a method is its number in the bundle; a
- * function of fewer than three arguments has 0 at its unused places. Numbers that are not there are refused by 18, so any may be passed.
+ * function of fewer than three arguments has 0 at its unused places. Numbers that are not there are refused by 18, the line of a chart by 22, so any may be
+ * passed.
  *
  * scratch holds at least CURIUMTOAD_SCRATCH_BYTES, row at least CURIUMTOAD_ROW_BYTES; with fewer the call is refused, by 19 or 20. What they hold before a
  * call does not matter. 1 to 9 and 19 leave the scratch as it was; else byte 128 * a + b is 1 where class a is under class b, and 0 otherwise, for a and b
  * below 128. Bytes past the first 16,384, and past the first 128 of the row, are never touched.
+ *
+ * text is the buffer of a listing or of a line of a chart; where it is too short for that the call is refused, by 20 or 23. Every refusal leaves it as it
+ * was, and so are the bytes after what is written, which no zero byte ends.
  *
  * What a caller owes, as C has no types for it:
  *
@@ -43,6 +47,7 @@
 #define CURIUMTOAD_SCRATCH_BYTES 16384
 #define CURIUMTOAD_ROW_BYTES 128
 #define CURIUMTOAD_TEXT_BYTES 512      /* enough for the listing of any bundle */
+#define CURIUMTOAD_LINE_BYTES 645      /* enough for any line of a chart */
 #define CURIUMTOAD_VALUE_COUNT 8
 #define CURIUMTOAD_STACK_BYTES 131072
 
@@ -80,7 +85,10 @@ enum curiumtoad_number {
     /* The call is wrong. These have no values, but for 18 from run_accepted. */
     CURIUMTOAD_ABSENT = 18,          /* an absent number, an unused place that is not 0, an abstract class, a tuple not covered */
     CURIUMTOAD_SHORT_SCRATCH = 19,
-    CURIUMTOAD_SHORT_BUFFER = 20     /* the row, or the buffer of a listing */
+    CURIUMTOAD_SHORT_BUFFER = 20,    /* the row, or the buffer of a listing */
+    CURIUMTOAD_NOT_BINARY = 21,      /* a chart of a function that has not two arguments */
+    CURIUMTOAD_NO_LINE = 22,         /* a line past the last of the chart */
+    CURIUMTOAD_SHORT_LINE = 23       /* the buffer of a line */
 };
 
 /* Which of the values holds what. */
@@ -99,8 +107,9 @@ enum curiumtoad_place {
     CURIUMTOAD_AT_CODE_START = 0,
     CURIUMTOAD_AT_CODE_LENGTH = 1,
 
-    /* listing */
+    /* listing; chart */
     CURIUMTOAD_AT_TEXT_LENGTH = 0,
+    CURIUMTOAD_AT_LINE_LENGTH = 0,
 
     /* run and run_accepted; the steps of a run that began are there however it ends */
     CURIUMTOAD_AT_ENDING = 0,
@@ -189,9 +198,17 @@ uint8_t curiumtoad_run(const uint8_t *bundle, size_t size, uint8_t *scratch, siz
 uint8_t curiumtoad_run_accepted(const uint8_t *bundle, size_t size, uint8_t *scratch, size_t scratch_size,
                                 uint64_t function, uint64_t a0, uint64_t a1, uint64_t a2, uint32_t count, uint64_t *values);
 
-/* The listing of the bundle as text (docs/MANUAL.md, part 12), whether it opens or not. 0: the length of the text, which is at the start of the buffer;
- * the bytes after it are as they were, and no zero byte ends it. 20: the buffer is too short, and is as it was. It takes no scratch, as it has its own. */
+/* The listing of the bundle as text (docs/MANUAL.md, part 12), whether it opens or not. 0: the length of the text, which is at the start of the buffer.
+ * Else 20. It takes no scratch, as it has its own. */
 uint8_t curiumtoad_listing(const uint8_t *bundle, size_t size, uint8_t *text, size_t text_size, uint64_t *values);
+
+/* A line of the chart of a function of two arguments (docs/MANUAL.md, part 13). The bundle has to open, not to be accepted. A chart over n concrete classes
+ * has the lines 0 to n, each of 5 + 5 * n bytes, newline included: a field of four places, then n times a blank and such a field, blanks in front of what is
+ * shorter. Line 0 is the head, an empty field and the classes by rising number. Line k shows the k-th class, counted from 1, then for each class as second
+ * argument beside it the method that a lookup finds, - for 10, * for 11. 0: the length of the line, which is at the start of the buffer. Else 1 to 9, 18, 19,
+ * 21, 22, 23. */
+uint8_t curiumtoad_chart(const uint8_t *bundle, size_t size, uint8_t *scratch, size_t scratch_size,
+                         uint8_t *text, size_t text_size, uint64_t function, uint64_t line, uint64_t *values);
 
 #ifdef __cplusplus
 }

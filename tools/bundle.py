@@ -1,11 +1,14 @@
 #!/usr/bin/env python3
-"""Bundles as text: write a bundle down with names, read one back, and read a listing with names.
+"""Bundles as text: write a bundle down with names, read one back, and read a listing and a chart with names.
 
 usage: tools/bundle.py pack TEXT               print the bundle that a text describes
        tools/bundle.py unpack BUNDLE [TEXT]    print the text of a bundle; its names are those of TEXT as far as that goes, else made up
        tools/bundle.py explain TEXT < LISTING  print a listing of the text's bundle with names in place of numbers
+       tools/bundle.py chart TEXT FUNCTION     print what each send of a function of two arguments finds, with names
+       tools/bundle.py chart BUNDLE FUNCTION   the same, with numbers
 
-Where something is refused, nothing is printed but the reason, on standard error, with its line; the exit code is then 1.
+Where something is refused, nothing is printed but the reason, on standard error, with its line; the exit code is then 1. Where there is no chart,
+the number that says why is the answer, and is printed.
 
 A text has one declaration or instruction a line, and # begins a comment:
 
@@ -26,6 +29,9 @@ import re
 import struct
 import sys
 from typing import NamedTuple
+
+sys.dont_write_bytecode = True
+from rules import MARKS, MATRIX, asked, chart_cells, chart_lines, chart_text  # noqa: E402
 
 DIRECTORY, LONGEST = 24, 65535
 CLASSES, FUNCTIONS, SIGNATURES, METHODS, PLACES, INSTRUCTIONS = 128, 64, 256, 512, 3, 64
@@ -621,6 +627,28 @@ class Explained:
         return f"refused: {whose}, {where}: {reason}"
 
 
+# Charts
+
+
+def named_chart(data, function, shown):
+    """all lines of a chart with names in place of numbers, in columns as wide as these need"""
+    classes = shown.names.classes
+    (corner, *columns), *rows = (chart_cells(data, function, line) for line in chart_lines(data))
+    table = [[corner, *(classes[own] for own in columns)]]
+    for first, *found in rows:
+        table.append([classes[first], *(own if own in MARKS.values() else shown.method(own) for own in found)])
+    widths = [max(map(len, column)) for column in zip(*table)]
+    return "".join("  ".join(f"{name:>{width}}" for name, width in zip(line, widths)) + "\n" for line in table)
+
+
+def charted(data, function, shown=None):
+    """the chart of a function, with names where records are shown by them; or the number by which there is none, in a line like a listing's"""
+    number, values = asked(data, MATRIX, "chart", function, 0, LONGEST)
+    if number:
+        return " ".join(["refused", str(number), *(f"record {k}" for k in values)]) + "\n"
+    return named_chart(data, function, shown) if shown else chart_text(data, function).decode()
+
+
 # Commands
 
 
@@ -644,6 +672,25 @@ def unpack(data, known=Names([], [], [])):
     if pack(text) != data:
         raise Refused(None, "the text that was made does not pack to the same bytes")
     return text
+
+
+def function_number(names, word):
+    """the function that is meant by a name, or by its number"""
+    if word in names:
+        return names.index(word)
+    if not re.fullmatch("[0-9]{1,20}", word):
+        raise Refused(None, f"there is no function {word}")
+    return int(word)
+
+
+def chart(data, word):
+    """the chart of a function of a text, or of a bundle, whose functions have no names"""
+    # The directory of a bundle that opens begins with 24 as two bytes, of which the second is 0, and no text that packs has such a byte.
+    if 0 in data:
+        return charted(data, function_number([], word))
+    text = decoded(data)
+    bundle, names = parse(text)
+    return charted(pack(text), function_number(names.functions, word), Shown(bundle, names))
 
 
 def decoded(data):
@@ -688,6 +735,8 @@ def main(arguments):
             described = on(path, parse, text_of(path))
             listing = on("listing", lambda: decoded(sys.stdin.buffer.read()))
             printed = on("listing", Explained(*described).text, listing).encode()
+        case ["chart", path, function]:
+            printed = on(path, chart, on(path, content, path), function).encode()
         case _:
             sys.exit(__doc__)
     sys.stdout.buffer.write(printed)

@@ -1,11 +1,13 @@
-"""The rules for opening, the body view and reader, ancestry and lookup, and for which sends signatures cover, written without the library."""
+"""The rules for opening, the body view and reader, ancestry, lookup and charts, and for which sends signatures cover, written without the library."""
 import functools
 import itertools
 
 LONGEST = 65535
 CLASSES, FUNCTIONS, SIGNATURES, METHODS, PLACES = 128, 64, 256, 512, 3
-ABSENT, SHORT, SHORT_ROW = 18, 19, 20
+ABSENT, SHORT, SHORT_ROW, NOT_BINARY, NO_LINE, SHORT_BUFFER = range(18, 24)
 MATRIX = 16384
+# What a chart shows where lookup gives one of these numbers.
+MARKS = {10: "-", 11: "*"}
 
 
 def word(data, at):
@@ -176,7 +178,57 @@ def is_covered(bundle, function, *places):
         for record in records(bundle[signature_at:][:length], 5))
 
 
-ASKED = {"ancestry": ancestry, "lookup": lookup}
+@functools.cache
+def concretes(bundle):
+    """the numbers of the concrete classes"""
+    at, length = spans(bundle)[0]
+    return [k for k, record in enumerate(records(bundle[at:][:length], 6)) if record[0] == 1]
+
+
+def cell(bundle, function, first, second):
+    """what a chart shows for a send: the method found, or a mark"""
+    number, values = lookup(bundle, function, first, second)
+    return MARKS[number] if number else values[0]
+
+
+def chart_cells(bundle, function, line):
+    """what stands in a line of a chart, from left to right: line 0 is the head, and each other one belongs to a concrete class as first argument"""
+    columns = concretes(bundle)
+    if line == 0:
+        return ["", *columns]
+    first = columns[line - 1]
+    return [first, *(cell(bundle, function, first, second) for second in columns)]
+
+
+def chart_line(bundle, function, line):
+    """the bytes of a line: four places a cell, with a blank between two"""
+    return (" ".join(f"{shown:>4}" for shown in chart_cells(bundle, function, line)) + "\n").encode()
+
+
+def chart_lines(bundle):
+    """the numbers of a chart's lines, whatever the function"""
+    return range(1 + len(concretes(bundle)))
+
+
+def chart_text(bundle, function):
+    """the bytes of all lines"""
+    return b"".join(chart_line(bundle, function, line) for line in chart_lines(bundle))
+
+
+def chart(bundle, function, line, buffer):
+    """number and values, of an opened bundle, for a line of a chart in a buffer of so many bytes: the length of the line"""
+    at, functions = spans(bundle)[2]
+    if function >= functions:
+        return ABSENT, []
+    if bundle[at + function] != 2:
+        return NOT_BINARY, []
+    if line not in chart_lines(bundle):
+        return NO_LINE, []
+    length = 5 + 5 * len(concretes(bundle))
+    return (0, [length]) if buffer >= length else (SHORT_BUFFER, [])
+
+
+ASKED = {"ancestry": ancestry, "lookup": lookup, "chart": chart}
 
 
 def asked(bundle, scratch, kind, *numbers):

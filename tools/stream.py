@@ -9,11 +9,12 @@ ENDS = {"value": 0, "spent": 1, "deep": 2}
 VALUES = 8
 # The scratch of a call is longer than the matrix, so that a byte written past it shows.
 SCRATCH = 17000
-# So is the row longer than a type.
-ROW = 140
+# So is the row longer than the longest line of a chart, and than a type.
+ROW = 660
 # The entry points in the order of their codes, and those that take scratch.
-ENTRIES = ["opening", "view", "instruction", "reading", "ancestry", "lookup", "send type", "check", "witness", "run", "accepted run", "listing"]
-SCRATCHED = ENTRIES[4:11]
+ENTRIES = [
+    "opening", "view", "instruction", "reading", "ancestry", "lookup", "send type", "check", "witness", "run", "accepted run", "listing", "chart"]
+SCRATCHED = [*ENTRIES[4:11], "chart"]
 
 
 class Call(NamedTuple):

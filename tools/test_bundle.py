@@ -483,6 +483,78 @@ class Explain(unittest.TestCase):
                     self.assertEqual(len(words.splitlines()), 2)
 
 
+CHART_3 = """\
+        1    2    3    4    6    7
+   1    -    -    2    0    -    -
+   2    -    -    1    *    -    -
+   3    -    -    -    -    -    -
+   4    -    -    -    -    -    -
+   6    -    -    -    -    -    -
+   7    -    -    -    -    -    -
+"""
+
+
+class Chart(unittest.TestCase):
+    def test_the_charts_with_numbers(self):
+        settled = CHART_3.replace("*", "3")
+        for name, text in [("chart-3", CHART_3), ("chart-4", settled), ("chart-5", settled), ("no-concrete-class", "    \n")]:
+            with self.subTest(name):
+                self.assertEqual(bundle.chart(SAMPLES[name], "0"), text)
+
+    def test_samples_that_have_a_chart_beside_them(self):
+        charts = {path.stem: path.read_text() for path in (ROOT / "bundles").glob("*.chart")}
+        self.assertGreater(len(charts), 3)
+        for name, text in charts.items():
+            with self.subTest(name):
+                self.assertEqual(bundle.chart(SAMPLES[name], "0"), text)
+
+    def test_methods_of_three_digits(self):
+        self.assertEqual(
+            bundle.chart(SAMPLES["102-methods"], "0").splitlines()[11], "  11    *    *    *    *    *    *    *    *  100    *  101    -")
+
+    def test_chart_3_with_names(self):
+        text = bundle.chart(CHART.encode(), "arm")
+        self.assertIn(f"```\n{text}```", DOCUMENTATION)
+        self.assertEqual(text.splitlines()[:3], [
+            "             Session  Lapsed                Bench                SharedBench  Armed  Denied",
+            "    Session        -       -  arm(Session, Bench)  arm(Session, SharedBench)      -       -",
+            "     Lapsed        -       -   arm(Lapsed, Bench)                          *      -       -",
+        ])
+        self.assertEqual(bundle.chart(CHART.encode(), "0"), text)
+
+    def test_no_concrete_class_with_names(self):
+        self.assertEqual(bundle.chart(b"abstract class A\nfunction f(x, y)", "f"), "\n")
+
+    def test_names_stand_where_the_numbers_do(self):
+        for name in ["chart-4", "102-methods", "several-broken"]:
+            text = bundle.unpack(SAMPLES[name])
+            described, names = bundle.parse(text)
+            shown = bundle.Shown(described, names)
+            columns, *rows = (line.split() for line in bundle.chart(SAMPLES[name], "0").splitlines())
+            expected = [[names.classes[int(own)] for own in columns]]
+            expected += [[names.classes[int(own)], *(c if c in "-*" else shown.method(int(c)) for c in found)] for own, *found in rows]
+            lines = bundle.chart(text.encode(), "fn0").splitlines()
+            self.assertEqual(len({len(line) for line in lines}), 1)
+            self.assertEqual([re.split(" {2,}", line.strip()) for line in lines], expected)
+
+    def test_without_a_chart(self):
+        for name, function, line in [
+            ("loop", "0", "refused 21"), ("abstract-argument", "0", "refused 21"), ("three-argument-tie", "0", "refused 21"),
+            ("chart-3", "1", "refused 18"), ("one-class", "0", "refused 18"), ("chart-3", "18446744073709551615", "refused 18"),
+            ("23-bytes", "0", "refused 1"), ("own-parent", "9", "refused 4 record 1"),
+        ]:
+            with self.subTest(name):
+                self.assertEqual(bundle.chart(SAMPLES[name], function), line + "\n")
+        self.assertEqual(bundle.chart(b"class A\nfunction f(x)", "f"), "refused 21\n")
+        self.assertEqual(bundle.chart(CHART.encode(), "1"), "refused 18\n")
+
+    def test_names_that_are_not_there(self):
+        for data, word in [(CHART.encode(), "Arm"), (CHART.encode(), "-1"), (SAMPLES["chart-3"], "arm"), (SAMPLES["chart-3"], "")]:
+            with self.assertRaises(bundle.Refused) as caught:
+                bundle.chart(data, word)
+            self.assertEqual((caught.exception.line, caught.exception.reason), (None, f"there is no function {word}"))
+
+
 class Commands(unittest.TestCase):
     def setUp(self):
         folder = tempfile.TemporaryDirectory()
@@ -531,8 +603,18 @@ class Commands(unittest.TestCase):
         self.assertEqual(self.run_script("explain", text, given=b"accepted\nno\n"), (1, b"", "listing:2: this is no line of a listing\n"))
         self.assertEqual(self.run_script("explain", text), (1, b"", "listing: the listing has no line\n"))
 
+    def test_chart(self):
+        bundle_file, text = self.kept("g.bundle", SAMPLES["chart-3"]), self.kept("g.txt", CHART.encode())
+        self.assertEqual(self.run_script("chart", bundle_file, "0"), (0, CHART_3.encode(), ""))
+        self.assertEqual(self.run_script("chart", text, "arm"), (0, bundle.chart(CHART.encode(), "arm").encode(), ""))
+        self.assertEqual(self.run_script("chart", bundle_file, "1"), (0, b"refused 18\n", ""))
+        self.assertEqual(self.run_script("chart", self.kept("h.bundle", SAMPLES["loop"]), "0"), (0, b"refused 21\n", ""))
+        self.assertEqual(self.run_script("chart", text, "disarm"), (1, b"", "g.txt: there is no function disarm\n"))
+        self.assertEqual(self.run_script("chart", self.kept("i.txt", b"class A\nclass B"), "f"), (
+            1, b"", "i.txt:2: class B has no parent, which only the first class may lack\n"))
+
     def test_usage(self):
-        for arguments in [[], ["pack"], ["repack", "a"], ["pack", "a", "b"]]:
+        for arguments in [[], ["pack"], ["repack", "a"], ["pack", "a", "b"], ["chart", "a"]]:
             code, printed, said = self.run_script(*arguments)
             self.assertEqual((code, printed), (1, b""))
             self.assertIn("usage:", said)

@@ -5,7 +5,7 @@ usage: tools/vectors.py FOLDER          write them, from the vectors of FOLDER (
        tools/vectors.py FOLDER --check  write nothing; say which files differ, and exit with 1 if any does
        tools/vectors.py one N           from the cases on standard input write the one numbered N, with its bundle, to standard output
 
-The rules for opening, ancestry and lookup stand a second time in rules.py. They give the answers for bundles that no vector has, and every
+The rules for opening, ancestry, lookup and charts stand a second time in rules.py. They give the answers for bundles that no vector has, and every
 vector is held to them, so that an answer on which the two differ is never passed on. The other answers, of runs, checks, send types and witnesses,
 are those of the vectors and of the rules' own cases as they stand; those for bundles made here are worked out by hand from its rules. The answers of accepted
 runs follow from those of the run and the check and from which signatures cover the send.
@@ -21,8 +21,8 @@ sys.path.insert(0, str(ROOT / "bundles"))
 import make  # noqa: E402
 from made import write_or_check  # noqa: E402
 from rules import (  # noqa: E402
-    ABSENT, ASKED, CLASSES, FUNCTIONS, LONGEST, MATRIX, METHODS, PLACES, SHORT, SHORT_ROW, SIGNATURES, asked, instruction, is_covered, opening, reading,
-    refused, spans, view)
+    ABSENT, ASKED, CLASSES, FUNCTIONS, LONGEST, MATRIX, METHODS, PLACES, SHORT, SHORT_ROW, SIGNATURES, asked, chart_line, chart_lines, instruction,
+    is_covered, opening, reading, refused, spans, view)
 from stream import ROW, SCRATCH, SCRATCHED, Call, ended, one, reply, stream_of, tally  # noqa: E402
 
 MOST = 2**32 - 1
@@ -194,12 +194,14 @@ def held(bundle, answer, second):
 
 
 # The later parts of the rules that have vectors of their own, beside those of the folder itself.
-LATER = ["requests/01"]
+LATER = ["requests/01", "requests/02"]
 
 
 def vectors(folder, name):
-    more = [folder / later / name for later in LATER]
-    for path in [folder / name, *(path for path in more if path.exists())]:
+    paths = [path for path in [folder / name, *(folder / later / name for later in LATER)] if path.exists()]
+    if not paths:
+        sys.exit(f"there are no vectors {name} in {folder}")
+    for path in paths:
         for line in path.read_text().splitlines():
             entry = json.loads(line)
             yield entry, bytes.fromhex(entry["bundle"])
@@ -533,6 +535,52 @@ def witness_cases(folder):
     yield from turned_away(folder, "witness", [0, 0, 0, 0])
 
 
+def charted(bundle, scratch, function, line, buffer):
+    """number, values and the line that is written"""
+    number, values = asked(bundle, scratch, "chart", function, line, buffer)
+    return number, values, b"" if number else chart_line(bundle, function, line)
+
+
+def chart_questions(bundle):
+    """(function, line, length of the buffer) for every function and line and for absent ones, in all pairs, so that some are wrong in several ways"""
+    functions, lines, length = opening(bundle)[1][1], chart_lines(bundle), len(chart_line(bundle, 0, 0))
+    return itertools.product(
+        [*range(functions), functions, LONGEST], [*lines, len(lines), LONGEST, 2**64 - 1], [length, length - 1, length + 1, 0, ROW])
+
+
+def chart_answers(folder):
+    """(bundle, scratch, numbers, number, values, line)"""
+    for entry, bundle in vectors(folder, "chart.jsonl"):
+        for call in entry["calls"]:
+            answer = call["answer"]
+            values = [answer["length"]] if "length" in answer else answer["values"]
+            yield bundle, SCRATCH, call["chart"], answer["number"], values, (call["line"] or "").encode()
+
+    def answered(bundle, scratch, questions):
+        for numbers in questions:
+            yield bundle, scratch, numbers, *charted(bundle, scratch, *numbers)
+
+    every_arity = make.bundle(make.CHART, [2, 0, 1, 3], [], make.CHART_METHODS)
+    for bundle in [*opened_samples(), *(make.FURTHER[name] for name in ["no-concrete-class", "102-methods"]), every_arity]:
+        yield from answered(bundle, SCRATCH, chart_questions(bundle))
+        yield from answered(bundle, MATRIX, [(0, 0, ROW), (LONGEST, 0, ROW)])
+    # The longest lines, with methods up to the highest that a function of two arguments has there.
+    longest_line = 5 + 5 * CLASSES
+    yield from answered(
+        make.bundle(*at_limits(chain(CLASSES))), SCRATCH,
+        itertools.product([1, FUNCTIONS - 3], [0, 1, 2, 8, CLASSES - 1, CLASSES, CLASSES + 1], [longest_line, longest_line - 1, longest_line + 1]))
+
+
+def chart_cases(folder):
+    """the row is the buffer, and the value the length of the line"""
+    for bundle, scratch, numbers, number, values, line in chart_answers(folder):
+        held(bundle, (number, values, line), charted(bundle, scratch, *numbers))
+        *numbers, buffer = numbers
+        yield bundle, Call("chart", tuple(numbers), scratch, buffer), reply(number, values, written=line)
+    # 1 to 9 and 19 come before all others.
+    yield from turned_away(folder, "chart", [0, 0], rows=(ROW, 0))
+
+
 def listing_cases(folder):
     """the row is the buffer: longer than the text, as long, and a byte shorter"""
     texts = [(bundle, entry["listing"].encode()) for entry, bundle in vectors(folder, "check.jsonl")]
@@ -569,7 +617,8 @@ def all_cases(folder):
     cases, repeats = {}, 0
     for bundle, call, answer in itertools.chain.from_iterable(
         made(folder) for made in [
-            opening_cases, view_cases, reader_cases, lookup_cases, send_type_cases, check_cases, witness_cases, run_cases, listing_cases]):
+            opening_cases, view_cases, reader_cases, lookup_cases, send_type_cases, check_cases, witness_cases, run_cases, listing_cases,
+            chart_cases]):
         opened = opening(bundle)
         if call.entry in SCRATCHED and (opened[0] or 0 < answer.number < 10):
             held(bundle, answer, reply(*opened))
@@ -595,9 +644,10 @@ def main():
         crate / "stdin": stream_of(cases),
         crate / "stdout": tally(cases),
     }
-    # The program itself is run on one of the samples.
-    for name, ending in [("stdin", ".bundle"), ("stdout", ".listing")]:
-        wanted[ROOT / "crates" / "listing" / name] = (ROOT / "bundles" / "chart-3").with_suffix(ending).read_bytes()
+    # The programs themselves are run on one of the samples.
+    for program in ["listing", "chart"]:
+        for name, ending in [("stdin", "bundle"), ("stdout", program)]:
+            wanted[ROOT / "crates" / program / name] = (ROOT / "bundles" / f"chart-3.{ending}").read_bytes()
     print(f"{len(cases)} bundles, {sum(map(len, cases.values()))} cases, {repeats} repeats left out", file=sys.stderr)
     sys.exit(write_or_check(ROOT, wanted, "--check" in sys.argv[1:]))
 

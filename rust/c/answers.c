@@ -123,6 +123,33 @@ static void listings(void)
     HOLDS(curiumtoad_listing(BUNDLE, text, strlen(expected) - 1, v) == CURIUMTOAD_SHORT_BUFFER);
 }
 
+static void charts(void)
+{
+    static const char *const expected[] = {
+        "        1    2    3    4    6    7\n",
+        "   1    -    -    2    0    -    -\n",
+        "   2    -    -    1    *    -    -\n",
+        "   3    -    -    -    -    -    -\n",
+        "   4    -    -    -    -    -    -\n",
+        "   6    -    -    -    -    -    -\n",
+        "   7    -    -    -    -    -    -\n",
+    };
+    static uint8_t line[CURIUMTOAD_LINE_BYTES];
+    enum { LINES = sizeof expected / sizeof expected[0], LENGTH = 35 };
+    use("chart-3");
+    for (uint64_t k = 0; k < LINES; k++) {
+        HOLDS(curiumtoad_chart(BUNDLE, SCRATCH, line, sizeof line, 0, k, v) == CURIUMTOAD_OK && v[CURIUMTOAD_AT_LINE_LENGTH] == LENGTH);
+        HOLDS(memcmp(line, expected[k], LENGTH) == 0);
+    }
+    /* Each refusal comes before those that hold as well, and leaves the buffer alone. */
+    HOLDS(curiumtoad_chart(BUNDLE, SCRATCH, line, LENGTH - 1, 1, LINES, v) == CURIUMTOAD_ABSENT);
+    HOLDS(curiumtoad_chart(BUNDLE, SCRATCH, line, LENGTH - 1, 0, LINES, v) == CURIUMTOAD_NO_LINE);
+    HOLDS(curiumtoad_chart(BUNDLE, SCRATCH, line, LENGTH - 1, 0, LINES - 1, v) == CURIUMTOAD_SHORT_LINE);
+    HOLDS(memcmp(line, expected[LINES - 1], LENGTH) == 0);
+    use("three-argument-tie");
+    HOLDS(curiumtoad_chart(BUNDLE, SCRATCH, line, 0, 0, LINES, v) == CURIUMTOAD_NOT_BINARY);
+}
+
 int main(int argc, char **argv)
 {
     if (argc != 2)
@@ -138,6 +165,7 @@ int main(int argc, char **argv)
     findings();
     runs();
     listings();
+    charts();
     printf("%d claims of the header, %d wrong\n", held, wrong);
     return wrong != 0;
 }

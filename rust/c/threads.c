@@ -1,5 +1,5 @@
 /* Makes the same calls on several threads at once, which share the bundle and have no more stack than the header says, and then on the main thread. Fails
- * where a number, a value or a byte of scratch, row or text differs, and prints the most stack that a thread used.
+ * where a number, a value or a byte of scratch, row, text or line differs, and prints the most stack that a thread used.
  *
  * usage: threads BUNDLE...
  */
@@ -22,6 +22,7 @@ struct calls {
     uint8_t scratch[CURIUMTOAD_SCRATCH_BYTES];
     uint8_t row[CURIUMTOAD_ROW_BYTES];
     uint8_t text[CURIUMTOAD_TEXT_BYTES];
+    uint8_t line[CURIUMTOAD_LINE_BYTES];
 };
 
 static uint64_t *next_values(struct calls *c)
@@ -61,6 +62,7 @@ static void *make_calls(void *lent)
         gave(c, curiumtoad_body(bytes, size, number, next_values(c)));
         for (uint64_t a0 = 0; a0 < 5; a0++) {
             gave(c, curiumtoad_ancestry(bytes, size, c->scratch, sizeof c->scratch, a0, number, next_values(c)));
+            gave(c, curiumtoad_chart(bytes, size, c->scratch, sizeof c->scratch, c->line, sizeof c->line, number, a0, next_values(c)));
             for (uint64_t a1 = 0; a1 < 5; a1++)
                 for (uint64_t a2 = 0; a2 < 2; a2++)
                     make_send(c, number, a0, a1, a2);
@@ -73,7 +75,7 @@ static int equal(const struct calls *a, const struct calls *b)
 {
     return a->count == b->count && memcmp(a->numbers, b->numbers, a->count) == 0 && memcmp(a->values, b->values, a->count * sizeof a->values[0]) == 0
         && memcmp(a->scratch, b->scratch, sizeof a->scratch) == 0 && memcmp(a->row, b->row, sizeof a->row) == 0
-        && memcmp(a->text, b->text, sizeof a->text) == 0;
+        && memcmp(a->text, b->text, sizeof a->text) == 0 && memcmp(a->line, b->line, sizeof a->line) == 0;
 }
 
 /* The stack of a thread: so many bytes, and below them a page that ends the program if it is touched. */

@@ -8,6 +8,7 @@ use crate::replies::alone;
 use curiumtoad::Send;
 use curiumtoad::Tuple;
 use curiumtoad::ancestry::ancestry;
+use curiumtoad::chart::chart;
 use curiumtoad::check::check;
 use curiumtoad::lookup::lookup;
 use curiumtoad::opening::open;
@@ -79,6 +80,7 @@ impl Call {
             8 => Reply::of_witness(witness(bundle, scratch, n0, tuple)),
             9 => Reply::of_run(run(bundle, scratch, send, count)),
             10 => Reply::of_accepted(run_accepted(bundle, scratch, send, count)),
+            12 => Reply::of_chart(chart(bundle, scratch, row, n0, n1)),
             _ => self.plain_reply(bundle, row),
         }
     }

@@ -4,14 +4,14 @@ ghost use Prim.Native.Nat.{_<_};
 
 // A scratch that is longer than the matrix, so that a call can write past it.
 pub(crate) const SCRATCH: usize = 17000;
-// So is the row longer than a type.
-pub(crate) const ROW: usize = 140;
+// So is the row longer than the longest line of a chart, and than a type.
+pub(crate) const ROW: usize = 660;
 
 const CLASSES: usize = 128;
 
-// Byte k before a call. It is never 0 or 1, which a matrix and a type have.
+// Byte k before a call. It is 128 or more, which no byte of a matrix, a type, a text or code is.
 fn filler(k: usize) -> u8 {
-    (2 + k % 251) as u8
+    (128 + k % 127) as u8
 }
 
 pub(crate) fn fill(space: &mut [u8]) {

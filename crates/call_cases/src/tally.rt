@@ -4,12 +4,12 @@ use crate::block::print_number;
 ghost use Prim.Native.Nat.{_<_};
 
 // The entry points, in the order of their codes.
-const ENTRIES: usize = 12;
+const ENTRIES: usize = 13;
 
 // The calls of each entry point, the differing ones of each, and all calls.
-pub(crate) const TALLIES: usize = 25;
+pub(crate) const TALLIES: usize = 27;
 
-const ALL: usize = 24;
+const ALL: usize = 26;
 
 fn print_entry(entry: usize) {
     match entry {
@@ -25,6 +25,7 @@ fn print_entry(entry: usize) {
         9 => print(b"run"),
         10 => print(b"accepted run"),
         11 => print(b"listing"),
+        12 => print(b"chart"),
         _ => print(b"unknown"),
     }
 }
@@ -39,7 +40,7 @@ pub(crate) fn print_differs(tallies: &[u64; TALLIES], entry: usize) {
 }
 
 fn add_one(tallies: &mut [u64; TALLIES], k: usize)
-    requires { ⌜ k < 25 ⌝ }
+    requires { ⌜ k < 27 ⌝ }
 {
     // No run comes near the end of these counts.
     tallies[k] = std::num::wrapping_add_u64(tallies[k], 1);

@@ -10,6 +10,7 @@ use Rattle.rules.specs.Layout.{Answer, gives, refuses, opening, require, codeOf
 use Rattle.rules.specs.Model.{Model, modelOf}
 use Rattle.rules.specs.Types.{Static}
 use Rattle.rules.specs.Calls.{scratchBytes, onOpening, whenOpen, withScratch, bodyViewCall, overwrite, matrixByte, scratchOn, scratchAfter, rowOn}
+use Rattle.rules.specs.Chart.{lineOn}
 use Rattle.bundle_rules.specs.declared.finding.LayoutFinding.{LayoutFinding}
 use Rattle.bundle_rules.specs.declared.finding.LayoutFinding.the-variants as finding
 use Rattle.bundle_rules.specs.declared.finding.Opening.the-variants as answer
@@ -28,6 +29,7 @@ use Rattle.curiumtoad.specs.declared.prepare.Preparation.{Preparation}
 use Rattle.curiumtoad.specs.declared.prepare.Preparation.the-variants as prepared
 use Rattle.curiumtoad.specs.Preparation.{Prepares, asRefusal, EarlyAs}
 use Rattle.calls.specs.Said.{blank, refusalSaid}
+use Rattle.chart_line.specs.Charted.{lengthSaid}
 use Rattle.calls.specs.Answers.{numberOf, valuesOf, recordOf}
 
 -- a layout finding is a number with its values
@@ -142,3 +144,17 @@ refusal-row M row (refusal.Layout f) = refl
 refusal-row M row refusal.Scratch = refl
 refusal-row M row refusal.Row = refl
 refusal-row M row refusal.Absent = refl
+
+-- and gives no line, and leaves the buffer as it was
+pub refusal-length : (r : Refusal) → lengthSaid (refusalSaid r) ≡ refusalSaid r
+refusal-length (refusal.Layout f) = refl
+refusal-length refusal.Scratch = refl
+refusal-length refusal.Row = refl
+refusal-length refusal.Absent = refl
+
+pub refusal-line : (buffer : List ℕ) (r : Refusal) → lineOn (refusalSaid r) buffer ≡ buffer
+unfolding lineOn
+refusal-line buffer (refusal.Layout f) = refl
+refusal-line buffer refusal.Scratch = refl
+refusal-line buffer refusal.Row = refl
+refusal-line buffer refusal.Absent = refl

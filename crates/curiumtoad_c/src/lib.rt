@@ -6,6 +6,7 @@ use crate::body::body_place;
 use curiumtoad::Send;
 use curiumtoad::Tuple;
 use curiumtoad::ancestry::ancestry;
+use curiumtoad::chart::chart;
 use curiumtoad::check::check;
 use curiumtoad::lookup::lookup;
 use curiumtoad::opening::open;
@@ -19,7 +20,9 @@ ghost use mathlib.Core.Path.{_≡_};
 ghost use mathlib.Core.List.{[], _∷_};
 ghost use lib.ListN.{length};
 ghost use Rattle.rules.specs.Calls.{openingCall, ancestryCall, lookupCall, sendTypeCall, checkCall, witnessCall, bodyViewCall, runCall, scratchAfter, rowAfter};
-ghost use Rattle.reply.specs.Replies.{reply, nothing, counts, yesOrNo, method, runReply};
+ghost use Rattle.rules.specs.Chart.{chartCall, bufferAfter};
+ghost use Rattle.chart_line.specs.Charted.{lengthSaid};
+ghost use Rattle.reply.specs.Replies.{reply, nothing, counts, yesOrNo, method, lineLength, runReply};
 ghost use Rattle.curiumtoad_c.specs.Exported.{version, Handed, placed, AcceptsAs, ListsAs};
 
 // Writes the values, and gives the number.
@@ -103,6 +106,24 @@ pub extern "C" fn curiumtoad_send_type(
     let send = Send { function, tuple };
     let answer = send_type(bundle, scratch, row, send);
     give(values, Reply::of_send_type(answer))
+}
+
+// A line of a chart: its length, with the line in the buffer.
+#[no_mangle]
+pub extern "C" fn curiumtoad_chart(
+    bundle: &[u8],
+    scratch: &mut [u8],
+    text: &mut [u8],
+    function: usize,
+    line: usize,
+    values: &mut [usize; 8],
+) -> u8
+    ensures { λ r. ⌜ Handed (reply lineLength (lengthSaid (chartCall (now (bundle .entry)) (length (now (scratch .entry))) (length (now (text .entry))) function line))) r (now (values .exit)) ⌝ }
+    ensures { λ r. ⌜ now (scratch .exit) ≡ scratchAfter (now (bundle .entry)) (now (scratch .entry)) ⌝ }
+    ensures { λ r. ⌜ now (text .exit) ≡ bufferAfter (now (bundle .entry)) (length (now (scratch .entry))) (now (text .entry)) function line ⌝ }
+{
+    let answer = chart(bundle, scratch, text, function, line);
+    give(values, Reply::of_chart(answer))
 }
 
 // The witness check: the rule holds, or 10 to 13.

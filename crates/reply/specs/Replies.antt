@@ -42,6 +42,10 @@ yesOrNo t = bit t ∷ []
 abbrev pub method : ℕ → List ℕ
 method m = m ∷ []
 
+-- the line call: how many bytes the line has
+abbrev pub lineLength : ℕ → List ℕ
+lineLength n = n ∷ []
+
 -- The ending of a run has a number where the run was stopped. Else its number is 0, and its first value tells a value from Spent and Deep.
 abbrev pub endingReply : Ending → Reply
 endingReply (value c) = numbered 0 (0 ∷ c ∷ [])

@@ -3,6 +3,7 @@ use bundle_rules::finding::LayoutFinding;
 use bundle_rules::finding::Opening;
 use calls::refusal::Refusal;
 use curiumtoad::ancestry::AncestryAnswer;
+use curiumtoad::chart::ChartAnswer;
 use curiumtoad::check::BodyFinding;
 use curiumtoad::check::Finding;
 use curiumtoad::check::Verdict;
@@ -25,7 +26,8 @@ ghost use Rattle.machine.specs.Endings.{endingOf};
 ghost use Rattle.machine.specs.Outcome.{outcomeOf};
 ghost use Rattle.calls.specs.Answers.{numberOf, valuesOf};
 ghost use Rattle.calls.specs.Said.{refusalSaid, ancestrySaid, lookupSaid, sendTypeSaid, coverageSaid, witnessSaid, runSaid, verdictSaid};
-ghost use Rattle.reply.specs.Replies.{numbered, reply, nothing, counts, yesOrNo, method, endingReply, withSteps, outcomeReply, runReply, acceptedReply};
+ghost use Rattle.chart_line.specs.Charted.{chartSaid};
+ghost use Rattle.reply.specs.Replies.{numbered, reply, nothing, counts, yesOrNo, method, lineLength, endingReply, withSteps, outcomeReply, runReply, acceptedReply};
 
 // The number of an answer (M 11), 0 where nothing is refused, and what is named beside it.
 pub struct Reply {
@@ -114,6 +116,18 @@ impl Reply {
             SendTypeAnswer::Typed => Reply::pair(0, 0, 0),
             SendTypeAnswer::Unlicensed => Reply::pair(16, 0, 0),
             SendTypeAnswer::Refused(refusal) => Reply::of_refusal(refusal),
+        }
+    }
+
+    pub fn of_chart(answer: ChartAnswer) -> Reply
+        ensures { λ r. ⌜ r ≡ reply lineLength (chartSaid answer) ⌝ }
+    {
+        match answer {
+            ChartAnswer::Written(n) => Reply::pair(0, n, 0),
+            ChartAnswer::Refused(refusal) => Reply::of_refusal(refusal),
+            ChartAnswer::NotBinary => Reply::pair(21, 0, 0),
+            ChartAnswer::NoLine => Reply::pair(22, 0, 0),
+            ChartAnswer::Short => Reply::pair(23, 0, 0),
         }
     }
 

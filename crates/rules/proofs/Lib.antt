@@ -15,4 +15,6 @@ pub mod Machine
 pub mod Sound
 pub mod Overwrite
 pub mod Tuples
+pub mod Decimal
+pub mod Chart
 pub mod Cases

@@ -1,19 +1,22 @@
 -- The cases that are marked P, as one table, and further worked cases beside them: each entry point, and each number that a call can give.
 -- Assumes nothing.
 use Prim.Native.Nat.{ℕ, _+_}
+use Prim.Native.String.{String}
 use mathlib.Core.Path.{_≡_}
 use mathlib.Core.Bool.{Bool, true, false}
 use mathlib.Core.List.{List, [], _∷_, _++_, map}
 use lib.Dec.{eqb}
-use lib.ListN.{replicate}
+use lib.ListN.{length, replicate}
 use Rattle.rules.specs.Bounded.{upto, any}
 use Rattle.rules.specs.Layout.{Answer, gives, refuses}
 use Rattle.rules.specs.Types.{Static}
 use Rattle.rules.specs.Machine.{Ending, value, spent, deep, stopped}
 use Rattle.rules.specs.Calls.{scratchBytes, rowBytes, openingCall, ancestryCall, lookupCall, sendTypeCall, checkCall, witnessCall, bodyViewCall, bodyViewStart, runCall, bit, rowAfter}
+use Rattle.rules.specs.Ascii.{ascii}
+use Rattle.rules.specs.Chart.{chartCall, bufferAfter}
 use Rattle.rules.specs.Samples.{chart3, chart4, chart5, loop, oneClass, abstractArgument, narrowDeclared, wideResult, twoValues, abstractNew, noLicence, looseResult, twentyThreeBytes, directoryGap, emptySections, ownParent, fourArguments, absentResult, emptyBody, twinMethods, unknownOperation, noMethod, threeFaults, severalBroken}
 
--- A call on a bundle, with what it comes to. Scratch and row are large enough, but for `checksIn` and `typesIn`, which give their length.
+-- A call on a bundle, with what it comes to. Scratch, row and buffer are large enough, but for `checksIn`, `typesIn` and `chartsIn`, which give their length.
 pub data Case : Type 0 where
   opens : List ℕ → Answer (List ℕ) → Case
   views : List ℕ → ℕ → List ℕ → ℕ → Case
@@ -25,12 +28,14 @@ pub data Case : Type 0 where
   types : List ℕ → ℕ → List ℕ → List ℕ → Case
   typesIn : List ℕ → ℕ → ℕ → List ℕ → Answer Static → Case
   runs : List ℕ → ℕ → List ℕ → ℕ → Ending → ℕ → Case
+  charts : List ℕ → ℕ → ℕ → String → Case
+  chartsIn : List ℕ → ℕ → ℕ → ℕ → Answer (List ℕ) → Case
 
 -- the row of a type that has these classes
 unfoldable pub rowOf : List ℕ → List ℕ
 rowOf classes = map (λ k. bit (any (eqb k) classes)) (upto rowBytes)
 
--- A send type is compared by its whole row, of which two bytes more are lent than it takes; all are 9 before the call.
+-- A send type is compared by its whole row, and a line of a chart by its whole buffer, of which two bytes more are lent than it takes; all are 9 before the call.
 abbrev pub Stands : Case → Type 0
 Stands (opens b answer) = openingCall b ≡ answer
 Stands (views b m code start) = (bodyViewCall b m ≡ gives code) × (bodyViewStart b m ≡ start)
@@ -43,6 +48,8 @@ Stands (types b f tuple classes) =
     rowAfter b scratchBytes (replicate (rowBytes + 2) 9) f tuple ≡ rowOf classes ++ 9 ∷ 9 ∷ []
 Stands (typesIn b n f tuple answer) = sendTypeCall b scratchBytes n f tuple ≡ answer
 Stands (runs b f tuple count e steps) = runCall b scratchBytes f tuple count ≡ gives (record { ending = e; steps = steps })
+Stands (charts b f k line) = bufferAfter b scratchBytes (replicate (length (ascii line) + 2) 9) f k ≡ ascii line ++ 9 ∷ 9 ∷ []
+Stands (chartsIn b n f k answer) = chartCall b scratchBytes n f k ≡ answer
 
 abbrev pub AllStand : List Case → Type 0
 AllStand [] = Unit {0}
@@ -104,4 +111,12 @@ worked =
     ∷ finds chart3 0 (1 ∷ 3 ∷ 1 ∷ []) (refuses 18 [])
     ∷ checksIn chart4 16383 (refuses 19 [])
     ∷ typesIn chart5 127 0 (2 ∷ 4 ∷ 0 ∷ []) (refuses 20 [])
+    ∷ charts chart3 0 0 "        1    2    3    4    6    7\n"
+    ∷ charts chart3 0 1 "   1    -    -    2    0    -    -\n"
+    ∷ charts chart3 0 2 "   2    -    -    1    *    -    -\n"
+    ∷ charts chart4 0 2 "   2    -    -    1    3    -    -\n"
+    ∷ chartsIn chart3 35 1 0 (refuses 18 [])
+    ∷ chartsIn abstractArgument 10 0 0 (refuses 21 [])
+    ∷ chartsIn chart3 35 0 7 (refuses 22 [])
+    ∷ chartsIn chart3 34 0 6 (refuses 23 [])
     ∷ []

@@ -10,6 +10,9 @@ pub mod First
 pub mod Alike
 pub mod Machine
 pub mod Calls
+pub mod Ascii
+pub mod Decimal
+pub mod Chart
 pub mod Samples
 pub mod Cases
 pub mod Sound

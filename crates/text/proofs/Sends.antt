@@ -12,7 +12,7 @@ use Rattle.dispatch.specs.declared.send.Send as send-type
 use Rattle.dispatch.specs.Send.{tupleOf, sendValues}
 use Rattle.calls.specs.declared.witness.CoverageFinding as coverage-type
 use Rattle.calls.specs.Said.{coverageSaid}
-use Rattle.text.specs.Ascii.{ascii}
+use Rattle.rules.specs.Ascii.{ascii}
 use Rattle.text.specs.Text.{field, classes, methods, finding, refusedLine, verdictLine}
 use Rattle.text.specs.Appended.{Appended}
 use Rattle.text.proofs.Growing.{grown-both, grown-wider, grown-as}

@@ -1,24 +1,14 @@
 -- The listing (M 12.1): the text that the program prints for the bundle on its standard input, whatever it is.
 -- Assumes nothing.
-use Prim.Native.Nat.{ℕ, zero, suc, _+_, _/_, _%_}
+use Prim.Native.Nat.{ℕ}
 use Prim.Native.String.{String}
-use mathlib.Core.Bool.{cond}
 use mathlib.Core.List.{List, [], _∷_, _++_}
-use lib.Dec.{ltb}
 use lib.ListN.{getD, take, drop}
 use Rattle.rules.specs.Layout.{Answer, gives, refuses, opening, places}
 use Rattle.rules.specs.Model.{Model, modelOf}
 use Rattle.rules.specs.Coverage.{verdict}
-use Rattle.text.specs.Ascii.{ascii}
-
--- a number of at most so many digits in decimal, without zeros in front
-unfoldable pub digits : ℕ → ℕ → List ℕ
-digits zero n = []
-digits (suc most) n = cond (ltb n 10) ((48 + n) ∷ []) (digits most (n / 10) ++ ((48 + n % 10) ∷ []))
-
--- twenty digits hold every number of 64 bits
-unfoldable pub decimal : ℕ → List ℕ
-decimal n = digits 20 n
+use Rattle.rules.specs.Ascii.{ascii}
+use Rattle.rules.specs.Decimal.{decimal}
 
 -- a word and a number
 unfoldable pub field : String → ℕ → List ℕ
@@ -57,10 +47,16 @@ finding M (s ∷ f ∷ a ∷ rest) =
     ++ classes (take (M .arity f) (a ∷ rest))
     ++ methods (drop places (a ∷ rest))
 
--- the line of the verdict: accepted, or the number and what comes with it
+-- the number and what comes with it
 unfoldable pub refusedLine : Model → ℕ → List ℕ → List ℕ
 refusedLine M number values = field "refused " number ++ finding M values ++ ascii "\n"
 
+-- the line of a call that is refused; there is none where it gives something
+unfoldable pub refusalLine : {A : Type 0} → Model → Answer A → List ℕ
+refusalLine M (gives x) = []
+refusalLine M (refuses number values) = refusedLine M number values
+
+-- the line of the verdict: accepted, or the refusal
 unfoldable pub verdictLine : Model → Answer (Unit {0}) → List ℕ
 verdictLine M (gives accepted) = ascii "accepted\n"
 verdictLine M (refuses number values) = refusedLine M number values

@@ -4,7 +4,8 @@ ghost use mathlib.Core.Path.{_≡_};
 ghost use mathlib.Core.List.{[], _∷_, _++_};
 ghost use Prim.Native.Nat.{_+_, _^_, _<_, _≤_};
 ghost use lib.ListN.{length, take};
-ghost use Rattle.text.specs.Text.{digits, decimal, classes};
+ghost use Rattle.rules.specs.Decimal.{digits, decimal};
+ghost use Rattle.text.specs.Text.{classes};
 ghost use Rattle.text.specs.Appended.{Appended};
 
 // The most digits of a number.

@@ -22,7 +22,7 @@ ghost use Rattle.layout.specs.Opened.{Opened};
 ghost use Rattle.dispatch.specs.Send.{tupleOf};
 ghost use Rattle.calls.specs.Answers.{valuesOf};
 ghost use Rattle.calls.specs.Said.{coverageSaid, verdictSaid};
-ghost use Rattle.text.specs.Ascii.{ascii};
+ghost use Rattle.rules.specs.Ascii.{ascii};
 ghost use Rattle.text.specs.Text.{field, countsLine, classes, finding, refusedLine, verdictLine};
 ghost use Rattle.text.specs.Appended.{Appended};
 ghost use Rattle.text.specs.Listed.{functionOf, NamedBy, Named, layoutLine, refusedWith};
@@ -66,12 +66,12 @@ pub(crate) fn layout_line(text: &mut [u8], at: usize, found: LayoutFinding) -> u
     put_word(text, end, b"\n")
 }
 
-// Writes the line of a check that had too little scratch. The listing has enough of its own, and so never prints it.
-fn scratch_line(text: &mut [u8], at: usize) -> usize
+// Writes the line of a refusal that names nothing.
+pub(crate) fn number_line(text: &mut [u8], at: usize, number: usize) -> usize
     requires { ⌜ at + 44 ≤ length (now text) ⌝ }
-    ensures { λ r. ⌜ ((M : Model) → Appended 44 (now (text .entry)) at (refusedLine M 19 []) (now (text .exit)) r) ⌝ }
+    ensures { λ r. ⌜ ((M : Model) → Appended 44 (now (text .entry)) at (refusedLine M number []) (now (text .exit)) r) ⌝ }
 {
-    let end = put_field(text, at, b"refused ", 19);
+    let end = put_field(text, at, b"refused ", number);
     put_word(text, end, b"\n")
 }
 
@@ -190,7 +190,8 @@ fn finding_line(bundle: &[u8], b: Bundle, text: &mut [u8], at: usize, found: Fin
 {
     match found {
         Finding::Layout(layout) => layout_line(text, at, layout),
-        Finding::Scratch => scratch_line(text, at),
+        // The listing has scratch enough of its own, and so never prints this.
+        Finding::Scratch => number_line(text, at, 19),
         Finding::Coverage(coverage) => coverage_line(bundle, b, text, at, coverage),
         Finding::Body(body) => body_line(text, at, body),
     }

@@ -41,7 +41,8 @@ fn room() -> [u8; 512]
     [0; 512]
 }
 
-fn matrix() -> [u8; BYTES]
+// A scratch, for callers that have none of their own.
+pub fn matrix() -> [u8; BYTES]
     ensures { λ r. ⌜ length r ≡ scratchBytes ⌝ }
 {
     [0; BYTES]

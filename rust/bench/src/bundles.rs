@@ -1,17 +1,6 @@
 //! The bundles that are measured.
 
-use builder::{Parts, Random, ARG, NEW, SEND};
-
-/// 128 concrete classes in a tree: two children to a class, down to depth 6.
-fn tree() -> Parts {
-    let mut parts = Parts::default();
-    parts.class(true, &[]);
-    for number in 1..128u8 {
-        // The last class would begin depth 7; it is a third child instead.
-        parts.class(true, &[((number - 1) / 2).min(62)]);
-    }
-    parts
-}
+use builder::{tree, widest_chart, Parts, Random, ARG, NEW, SEND};
 
 /// As many records as the limits allow, and bodies to fill 65,535 bytes. It is accepted. A function has arguments and
 /// results in one of the eight parts that depth 3 divides the tree into, and its bodies send functions of that part.
@@ -273,6 +262,11 @@ pub fn slowest_broken() -> Vec<u8> {
     parts.methods.pop();
     parts.method(0, [127; 3], 64, &[[NEW, 127]]);
     parts.bytes()
+}
+
+/// A function of two arguments over the tree of 128 classes, with 512 methods, of which up to 25 apply to a tuple.
+pub fn chart() -> Vec<u8> {
+    widest_chart().bytes()
 }
 
 /// A body that sends the next function over and over.

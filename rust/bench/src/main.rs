@@ -37,6 +37,8 @@ fn cases() -> Vec<Case> {
         open_case("open the largest bundle, 65,535 bytes", bundles::largest()),
         ancestry_case("ancestry: 128 classes of three parents", bundles::classes()),
         lookup_case("lookup among 512 methods", bundles::many_methods(false)),
+        repeated(LINES, chart_case("chart of 128 classes, 512 methods: all 129 lines", bundles::chart())),
+        repeated(LINES, ancestry_case("ancestry on the bundle of that chart, 129 times", bundles::chart())),
         check_case("check 2,097,152 tuples, 5 methods, accepted", bundles::few_methods(false), 0),
         check_case("check 2,097,152 tuples, 7 methods, last one broken", bundles::few_methods(true), 11),
         check_case("check 2,097,152 tuples, 512 methods, accepted", bundles::many_methods(false), 0),
@@ -100,6 +102,43 @@ fn lookup_case(name: &'static str, bundle: Vec<u8>) -> Case {
 
 fn next([a, b, c]: [u64; 3]) -> [u64; 3] {
     [(a + 1) % 128, (b + 1 + a / 127) % 128, (c + 3) % 128]
+}
+
+/// How many lines the chart of 128 concrete classes has.
+const LINES: u64 = 129;
+
+/// One call is one line; the line changes from call to call.
+fn chart_case(name: &'static str, bundle: Vec<u8>) -> Case {
+    let [a, b] = [bundle.clone(), bundle];
+    let (mut scratch_1, mut scratch_2) = ([0; plain::SCRATCH], [0; plain::SCRATCH]);
+    let (mut text_1, mut text_2) = ([0; plain::LINE], [0; plain::LINE]);
+    let (mut line_1, mut line_2) = (0, 0);
+    Case {
+        name,
+        library: Box::new(move || {
+            line_1 = (line_1 + 1) % LINES;
+            by_library(|values| raw::chart(black_box(&a), &mut scratch_1, &mut text_1, 0, line_1, values))
+        }),
+        plain: Some(Box::new(move || {
+            line_2 = (line_2 + 1) % LINES;
+            by_plain(plain::chart(black_box(&b), &mut scratch_2, &mut text_2, 0, line_2))
+        })),
+        fast: None,
+        expected: (0, Some(plain::LINE as u64)),
+    }
+}
+
+/// The case with each call made so many times over.
+fn repeated(count: u64, case: Case) -> Case {
+    let over = |mut call: Call| -> Call {
+        Box::new(move || {
+            for _ in 1..count {
+                black_box(call());
+            }
+            call()
+        })
+    };
+    Case { library: over(case.library), plain: case.plain.map(over), fast: case.fast.map(over), ..case }
 }
 
 fn check_case(name: &'static str, bundle: Vec<u8>, number: u8) -> Case {

@@ -1,4 +1,4 @@
-//! The chart bundles: the samples that the worked cases go by.
+//! The chart bundles: the samples that the worked cases go by, and the bundle of the widest chart.
 
 use crate::{Parts, NEW, SEND};
 
@@ -42,5 +42,27 @@ pub fn looping() -> Parts {
     let again = parts.function(0);
     parts.signature(again, [0; 3], 0);
     parts.method(again, [0; 3], 0, &[[SEND, again]]);
+    parts
+}
+
+/// 128 concrete classes in a tree: two children to a class, down to depth 6.
+pub fn tree() -> Parts {
+    let mut parts = Parts::default();
+    parts.class(true, &[]);
+    for number in 1..128u8 {
+        // The last class would begin depth 7; it is a third child instead.
+        parts.class(true, &[((number - 1) / 2).min(62)]);
+    }
+    parts
+}
+
+/// A function of two arguments over the tree, with as many methods as there may be: one for each pair of the first 23 classes, but
+/// for the last 17 pairs, so that class 22 as first argument often finds rivals.
+pub fn widest_chart() -> Parts {
+    let mut parts = tree();
+    let function = parts.function(2);
+    for number in 0..512 {
+        parts.method(function, [(number / 23) as u8, (number % 23) as u8, 0], 0, &[[NEW, 0]]);
+    }
     parts
 }

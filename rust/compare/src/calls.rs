@@ -19,6 +19,8 @@ pub enum Call {
     RunAccepted(u64, [u64; 3], u32),
     /// With the length of the text's buffer.
     Listing(usize),
+    /// The function, the line, and the length of its buffer.
+    Chart(u64, u64, usize),
 }
 
 /// What a call may be lent: a scratch, a row, and a buffer for a text.
@@ -37,6 +39,15 @@ impl Call {
             Call::Run(..) => "run",
             Call::RunAccepted(..) => "run_accepted",
             Call::Listing(..) => "listing",
+            Call::Chart(..) => "chart",
+        }
+    }
+
+    /// How long a buffer for a text the call is lent.
+    pub fn text_length(&self) -> usize {
+        match *self {
+            Call::Listing(length) | Call::Chart(_, _, length) => length,
+            _ => 0,
         }
     }
 
@@ -55,6 +66,7 @@ impl Call {
                 plain::run_accepted(bundle, scratch, function, arguments, count)
             }
             Call::Listing(_) => plain::listing(bundle, text),
+            Call::Chart(function, line, _) => plain::chart(bundle, scratch, text, function, line),
         }
     }
 
@@ -73,6 +85,7 @@ impl Call {
                 raw::run_accepted(bundle, scratch, function, arguments, count, values)
             }
             Call::Listing(_) => raw::listing(bundle, text, values),
+            Call::Chart(function, line, _) => raw::chart(bundle, scratch, text, function, line, values),
         }
     }
 
@@ -92,6 +105,7 @@ impl Call {
             Call::Run(..) => there_and_back::<curiumtoad::Run>(reply),
             Call::RunAccepted(..) => there_and_back::<curiumtoad::AcceptedRun>(reply),
             Call::Listing(..) => there_and_back::<Option<usize>>(reply),
+            Call::Chart(..) => there_and_back::<curiumtoad::Chart>(reply),
         }
     }
 }
@@ -119,8 +133,7 @@ impl Lent {
             2..=8 => plain::ROW,
             _ => plain::ROW + random.within(1, 200),
         };
-        let text = if let Call::Listing(length) = call { *length } else { 0 };
-        Lent { scratch, row, text, start: random.below(17) }
+        Lent { scratch, row, text: call.text_length(), start: random.below(17) }
     }
 }
 
@@ -261,6 +274,7 @@ pub fn choose(random: &mut Random, bundle: &[u8], parts: &Parts) -> Vec<Call> {
         let (function, tuple) = chooser.send();
         let count = chooser.count(bundle, function, tuple);
         calls.push(Call::Run(function, tuple, count));
+        calls.push(chooser.chart());
     }
     let (function, tuple) = chooser.send();
     let count = chooser.count(bundle, function, tuple);
@@ -273,6 +287,17 @@ pub fn choose(random: &mut Random, bundle: &[u8], parts: &Parts) -> Vec<Call> {
 fn listings(bundle: &[u8]) -> [Call; 4] {
     let length = plain::listing(bundle, &mut [0; plain::TEXT]).values[0] as usize;
     [0, length - 1, length, plain::TEXT].map(Call::Listing)
+}
+
+/// Every line of a chart, and lines past its last, in buffers that are empty, a byte short, just long enough, and longer.
+fn charts(bundle: &[u8], function: u64) -> Vec<Call> {
+    let head = plain::chart(bundle, &mut [0; plain::SCRATCH], &mut [0; plain::LINE], function, 0);
+    // Where there is no chart, its lines are taken to be as short as lines can be.
+    let length = if head.number == 0 { head.values[0] as usize } else { 5 };
+    let lines = length as u64 / 5;
+    let lengths = [0, length - 1, length, length + 1];
+    let numbers = (0..=lines).chain([255, 256, WIDE, WIDE + 1, u64::MAX]);
+    numbers.flat_map(|line| lengths.map(|length| Call::Chart(function, line, length))).collect()
 }
 
 struct Chooser<'a> {
@@ -356,6 +381,23 @@ impl Chooser<'_> {
         (function, self.tuple(function as u8, [0; 3]))
     }
 
+    /// A line of the chart of a function, most often one of two arguments, in a buffer about as long as the line.
+    fn chart(&mut self) -> Call {
+        let functions = &self.parts.functions;
+        let binary: Vec<usize> = (0..functions.len()).filter(|&function| functions[function] == 2).collect();
+        let function = if binary.is_empty() || self.random.once_in(4) {
+            self.number(functions.len())
+        } else {
+            self.random.of(&binary) as u64
+        };
+        let concretes = self.parts.classes.iter().filter(|class| class.concrete).count();
+        // The head, a line for each class, and one line too many.
+        let line = self.number(1 + concretes + 1);
+        let length = 5 + 5 * concretes;
+        let longer = length + self.random.below(200);
+        Call::Chart(function, line, self.random.of(&[0, length - 1, length, length, length + 1, longer]))
+    }
+
     /// A step count: any small one, or the greatest where the run is known to end.
     fn count(&mut self, bundle: &[u8], function: u64, tuple: [u64; 3]) -> u32 {
         let small = [0, 1, 2, 3, 4, 5, 7, 10, 20, 31, 32, 33, 60, 100, 300, 1000, 3000];
@@ -388,6 +430,7 @@ pub fn every(bundle: &[u8]) -> Vec<Call> {
     for a in (0..classes).chain([128, WIDE, u64::MAX]) {
         calls.extend((0..classes).chain([128, WIDE, u64::MAX]).map(|b| Call::Ancestry(a, b)));
     }
+    calls.extend((0..=counts[1]).chain([255, 256, WIDE, u64::MAX]).flat_map(|function| charts(bundle, function)));
     let mut tuples = Vec::new();
     for a in 0..classes {
         for b in 0..classes {

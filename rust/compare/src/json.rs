@@ -1,4 +1,4 @@
-//! As much of JSON as the files of vectors use: no escapes but `\n` and the like, and whole numbers only.
+//! As much of JSON as the files of vectors use: no escape but `\n`, and whole numbers only.
 
 /// A value.
 #[derive(Clone, Debug, PartialEq)]
@@ -118,8 +118,8 @@ fn word(rest: &mut &[u8]) -> Option<String> {
         match byte {
             b'"' => return String::from_utf8(word).ok(),
             b'\\' => {
-                word.extend([b'\\', *rest.first()?]);
-                *rest = &rest[1..];
+                *rest = rest.strip_prefix(b"n")?;
+                word.push(b'\n');
             }
             _ => word.push(byte),
         }

@@ -34,7 +34,14 @@ pub fn made_bundles(count: usize, seed: u64, comparer: &mut Comparer) {
 pub fn given_bundles(bundles: &[Vec<u8>], comparer: &mut Comparer) {
     let mut random = Random::new(CALLS);
     let none = Parts::default();
-    let short = [Call::Open, Call::Check, Call::Body(0), Call::Run(0, [0; 3], 100), Call::Listing(plain::TEXT)];
+    let short = [
+        Call::Open,
+        Call::Check,
+        Call::Body(0),
+        Call::Run(0, [0; 3], 100),
+        Call::Listing(plain::TEXT),
+        Call::Chart(0, 1, plain::LINE),
+    ];
     for bundle in bundles {
         comparer.bundle(bundle, &calls::every(bundle), &mut random);
         for at in 0..bundle.len() {

@@ -3,7 +3,7 @@
 use std::fmt;
 
 /// The numbers of refusals, and 0 for an answer.
-pub const NUMBERS: usize = 21;
+pub const NUMBERS: usize = 24;
 
 /// Counts of bundles, calls and numbers, and of differences.
 #[derive(Default)]
@@ -40,9 +40,13 @@ impl Tally {
         self.most_steps = self.most_steps.max(values[7]);
     }
 
-    /// The numbers 0 to 17 that no check gave.
+    /// The numbers 0 to 17 that no check gave, and those from 18 on, which are not a check's own, that no call gave.
     pub fn never_seen(&self) -> Vec<usize> {
-        (0..=17).filter(|&number| self.checks[number] == 0).collect()
+        let seen = |number: usize| match number {
+            0..=17 => self.checks[number] != 0,
+            _ => self.by_call.iter().any(|(_, counts)| counts[number] != 0),
+        };
+        (0..NUMBERS).filter(|&number| !seen(number)).collect()
     }
 }
 

@@ -6,7 +6,7 @@ use std::path::Path;
 use std::process::ExitCode;
 
 /// The files and the call that each is about; the fields of a case name the call where there are several.
-const FILES: [&str; 7] = ["opening", "check", "lookup", "witness", "sendtype", "run", "view"];
+const FILES: [&str; 8] = ["opening", "check", "lookup", "witness", "sendtype", "run", "view", "chart"];
 
 /// Holds both implementations to the files of a folder, which has one or more of them.
 pub fn compare(folder: &Path) -> ExitCode {
@@ -73,6 +73,7 @@ fn call(case: &Json) -> Option<Call> {
         ("sendtype", 4) => Call::SendType(n[0], [n[1], n[2], n[3]]),
         ("run", 5) => Call::Run(n[0], [n[1], n[2], n[3]], u32::try_from(n[4]).ok()?),
         ("view", 1) => Call::Body(n[0]),
+        ("chart", 3) => Call::Chart(n[0], n[1], usize::try_from(n[2]).ok()?),
         _ => return None,
     })
 }
@@ -80,28 +81,51 @@ fn call(case: &Json) -> Option<Call> {
 /// Makes a call by both implementations and holds both to the expected answer.
 fn made(bundle: &[u8], call: &Call, case: &Json, counts: &mut Counts) -> Option<()> {
     let expected = expected(call, case.get("answer")?)?;
-    let row = match case.get("row") {
-        Some(row) if expected.0 == 0 => Some(row.numbers()?),
-        _ => None,
-    };
-    let (mut scratch, mut row_1, mut row_2) = ([7; plain::SCRATCH], [7; plain::ROW], [7; plain::ROW]);
-    let reply = call.by_plain(bundle, [&mut scratch, &mut row_1, &mut []]);
+    let mut left = Lent::before(call);
+    if expected.0 == 0 {
+        left.write(case)?;
+    }
+    let mut scratch = [7; plain::SCRATCH];
+    let (mut by_plain, mut by_library) = (Lent::before(call), Lent::before(call));
+    let reply = call.by_plain(bundle, [&mut scratch, &mut by_plain.row, &mut by_plain.text]);
     let mut values = [7; 8];
-    let number = call.by_library(bundle, [&mut scratch, &mut row_2, &mut []], &mut values);
-    for (who, said, row_said) in
-        [("plain", (reply.number, reply.values), row_1), ("the library", (number, values), row_2)]
+    let number = call.by_library(bundle, [&mut scratch, &mut by_library.row, &mut by_library.text], &mut values);
+    for (who, said, left_by) in
+        [("plain", (reply.number, reply.values), by_plain), ("the library", (number, values), by_library)]
     {
         counts.calls += 1;
-        let row_expected = match &row {
-            Some(inside) => std::array::from_fn(|class| inside.contains(&(class as u64)) as u8),
-            None => [7; plain::ROW],
-        };
-        if said != expected || row_said != row_expected {
+        if said != expected || left_by != left {
             counts.wrong += 1;
             println!("{call:?}: {who} gives {said:?}, expected {expected:?}; bundle {}", builder::hex(bundle));
         }
     }
     Some(())
+}
+
+/// The lent buffers whose bytes a case names.
+#[derive(PartialEq)]
+struct Lent {
+    row: [u8; plain::ROW],
+    text: Vec<u8>,
+}
+
+impl Lent {
+    fn before(call: &Call) -> Lent {
+        Lent { row: [7; plain::ROW], text: vec![7; call.text_length()] }
+    }
+
+    /// Writes what an answered call has to leave.
+    fn write(&mut self, case: &Json) -> Option<()> {
+        if let Some(row) = case.get("row") {
+            let inside = row.numbers()?;
+            self.row = std::array::from_fn(|class| inside.contains(&(class as u64)) as u8);
+        }
+        if let Some(line) = case.get("line") {
+            let line = line.word()?.as_bytes();
+            self.text.get_mut(..line.len())?.copy_from_slice(line);
+        }
+        Some(())
+    }
 }
 
 /// The number and the values of an expected answer.
@@ -115,6 +139,7 @@ fn expected(call: &Call, answer: &Json) -> Option<(u8, [u64; 8])> {
             Call::Ancestry(..) => values.push((answer.get("answer")?.word()? == "yes") as u64),
             Call::Lookup(..) => values.push(field("method").or(field("answer"))?),
             Call::Body(..) => values.extend([field("start")?, field("length")?]),
+            Call::Chart(..) => values.push(field("length")?),
             Call::Run(..) => match answer.get("end")?.word()? {
                 "value" => values.extend([0, field("class")?]),
                 "spent" => values.push(1),

@@ -298,6 +298,43 @@ impl Answer for SendType {
     }
 }
 
+/// The answer of a chart call; the line itself is at the start of the buffer.
+#[derive(Clone, Copy, Debug, PartialEq, Eq)]
+pub enum Chart {
+    /// The line has so many bytes.
+    Line(usize),
+    /// 21: the function has not two arguments.
+    NotBinary,
+    /// 22: the chart has fewer lines.
+    NoLine,
+    /// 23: the buffer is shorter than the line.
+    ShortLine,
+    /// The call was refused.
+    Refused(Refusal),
+}
+
+impl Answer for Chart {
+    fn of(reply: Reply) -> Self {
+        match reply.number {
+            0 => Chart::Line(reply.values[0] as usize),
+            21 => Chart::NotBinary,
+            22 => Chart::NoLine,
+            23 => Chart::ShortLine,
+            _ => Chart::Refused(Refusal::of(reply)),
+        }
+    }
+
+    fn reply(&self) -> Reply {
+        match self {
+            Chart::Line(length) => Reply::new(0, &[*length as u64]),
+            Chart::NotBinary => Reply::new(21, &[]),
+            Chart::NoLine => Reply::new(22, &[]),
+            Chart::ShortLine => Reply::new(23, &[]),
+            Chart::Refused(refusal) => refusal.reply(),
+        }
+    }
+}
+
 /// Why a tuple breaks the coverage of a signature.
 #[derive(Clone, Copy, Debug, PartialEq, Eq)]
 pub enum Fault {

@@ -23,8 +23,8 @@ mod answers;
 pub mod raw;
 
 pub use answers::{
-    AcceptedRun, Answer, BodyFault, BrokenBody, BrokenSignature, Counts, Ending, Fault, Finding, Lookup, Refusal,
-    Reply, Run, SendType, Sent, Verdict, Witness,
+    AcceptedRun, Answer, BodyFault, BrokenBody, BrokenSignature, Chart, Counts, Ending, Fault, Finding, Lookup,
+    Refusal, Reply, Run, SendType, Sent, Verdict, Witness,
 };
 
 use std::ops::Range;
@@ -37,6 +37,8 @@ pub const SCRATCH: usize = 16_384;
 pub const ROW: usize = 128;
 /// A length that is enough for the listing of any bundle.
 pub const TEXT: usize = 512;
+/// A length that is enough for any line of a chart.
+pub const LINE: usize = 645;
 
 /// The version that the library was built with. Where it is not [`VERSION`], this crate is not made for the library that
 /// is linked, and no other function may be called.
@@ -209,4 +211,23 @@ pub fn run_accepted(bundle: &[u8], scratch: &mut [u8], function: u64, arguments:
 pub fn listing<'text>(bundle: &[u8], text: &'text mut [u8]) -> Option<&'text str> {
     let length: usize = Option::of(raw::reply(|values| raw::listing(bundle, text, values)))?;
     Some(std::str::from_utf8(&text[..length]).expect("a listing is ASCII"))
+}
+
+/// A line of the chart of a function of two arguments, at the start of the buffer, which is left alone by every answer but
+/// [`Chart::Line`]; [`LINE`] bytes are always enough. Line 0 has the concrete classes. Each other line has one of them, in their
+/// order, and what a lookup finds for it as the first argument and each of them as the second: a method, `-` for none, `*` for
+/// rivals. The bundle need not be accepted.
+///
+/// ```
+/// use curiumtoad::{chart, Chart, LINE, SCRATCH};
+///
+/// let bundle = std::fs::read("../../bundles/chart-3.bundle")?;
+/// let (mut scratch, mut text) = ([0; SCRATCH], [0; LINE]);
+/// assert_eq!(chart(&bundle, &mut scratch, &mut text, 0, 2), Chart::Line(35));
+/// assert_eq!(text[..35], *b"   2    -    -    1    *    -    -\n");
+/// assert_eq!(chart(&bundle, &mut scratch, &mut text, 0, 7), Chart::NoLine);
+/// # Ok::<(), std::io::Error>(())
+/// ```
+pub fn chart(bundle: &[u8], scratch: &mut [u8], text: &mut [u8], function: u64, line: u64) -> Chart {
+    Answer::of(raw::reply(|values| raw::chart(bundle, scratch, text, function, line, values)))
 }

@@ -68,6 +68,7 @@ calls! {
     run = curiumtoad_run [scratch] (function) (a0, a1, a2) count;
     run_accepted = curiumtoad_run_accepted [scratch] (function) (a0, a1, a2) count;
     listing = curiumtoad_listing [text] ();
+    chart = curiumtoad_chart [scratch, text] (function, line);
 }
 
 /// See [`crate::version`].

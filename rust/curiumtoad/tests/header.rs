@@ -1,6 +1,6 @@
 //! The constants of this crate, the library's version and include/curiumtoad.h say the same.
 
-use curiumtoad::{version, ROW, SCRATCH, TEXT, VERSION};
+use curiumtoad::{version, LINE, ROW, SCRATCH, TEXT, VERSION};
 
 /// The number that the header defines for a name.
 fn defined(name: &str) -> usize {
@@ -26,4 +26,5 @@ fn the_same_sizes() {
     assert_eq!(defined("CURIUMTOAD_SCRATCH_BYTES"), SCRATCH);
     assert_eq!(defined("CURIUMTOAD_ROW_BYTES"), ROW);
     assert_eq!(defined("CURIUMTOAD_TEXT_BYTES"), TEXT);
+    assert_eq!(defined("CURIUMTOAD_LINE_BYTES"), LINE);
 }

@@ -1,9 +1,9 @@
 //! The sample bundles by the wrapper's types, and buffers of every length.
 
 use curiumtoad::{
-    ancestry, body, check, listing, lookup, open, run, run_accepted, send_type, witness, AcceptedRun, BodyFault,
-    BrokenBody, BrokenSignature, Ending, Fault, Finding, Lookup, Refusal, Run, SendType, Sent, Verdict, Witness, ROW,
-    SCRATCH, TEXT,
+    ancestry, body, chart, check, listing, lookup, open, run, run_accepted, send_type, witness, AcceptedRun, BodyFault,
+    BrokenBody, BrokenSignature, Chart, Ending, Fault, Finding, Lookup, Refusal, Run, SendType, Sent, Verdict, Witness,
+    LINE, ROW, SCRATCH, TEXT,
 };
 
 fn sample(name: &str) -> Vec<u8> {
@@ -72,6 +72,8 @@ fn empty_buffers_are_refused() {
     assert_eq!(ancestry(&bundle, &mut [], 0, 0), Err(Refusal::Scratch));
     assert_eq!(send_type(&bundle, &mut [], &mut [], 0, [1, 3, 0]), SendType::Refused(Refusal::Scratch));
     assert_eq!(send_type(&bundle, &mut [0; SCRATCH], &mut [], 0, [1, 3, 0]), SendType::Refused(Refusal::Row));
+    assert_eq!(chart(&bundle, &mut [], &mut [], 0, 0), Chart::Refused(Refusal::Scratch));
+    assert_eq!(chart(&bundle, &mut [0; SCRATCH], &mut [], 0, 0), Chart::ShortLine);
 }
 
 #[test]
@@ -86,6 +88,12 @@ fn short_buffers_are_left_alone_and_long_ones_past_their_part() {
     assert!(scratch[..SCRATCH].iter().chain(&row[..ROW]).all(|&byte| byte < 2));
     assert_eq!(scratch[SCRATCH..], [9; 5]);
     assert_eq!(row[ROW..], [9; 5]);
+    let mut text = [9; 34];
+    assert_eq!(chart(&bundle, &mut scratch, &mut text, 0, 1), Chart::ShortLine);
+    assert_eq!(text, [9; 34]);
+    let mut text = [9; 40];
+    assert_eq!(chart(&bundle, &mut scratch, &mut text, 0, 1), Chart::Line(35));
+    assert_eq!(text[34..], [b'\n', 9, 9, 9, 9, 9]);
 }
 
 #[test]
@@ -100,6 +108,47 @@ fn absent_numbers_are_refused_whatever_their_width() {
         assert_eq!(lookup(&bundle, &mut scratch, 0, [1, 3, number]), Lookup::Refused(Refusal::Absent));
         assert_eq!(witness(&bundle, &mut scratch, number, [1, 3, 0]), Witness::Refused(Refusal::Absent));
         assert_eq!(run(&bundle, &mut scratch, number, [1, 3, 0], 1), Run::Refused(Refusal::Absent));
+        assert_eq!(chart(&bundle, &mut scratch, &mut [], number, 0), Chart::Refused(Refusal::Absent));
+        assert_eq!(chart(&bundle, &mut scratch, &mut [], 0, number), Chart::NoLine);
+    }
+}
+
+/// The chart of function 0, line after line.
+fn whole_chart(name: &str) -> String {
+    let bundle = sample(name);
+    let mut text = [0; LINE];
+    let lines = (0..).map_while(|line| match chart(&bundle, &mut [0; SCRATCH], &mut text, 0, line) {
+        Chart::Line(length) => Some(String::from_utf8_lossy(&text[..length]).into_owned()),
+        Chart::NoLine => None,
+        other => panic!("{other:?}"),
+    });
+    lines.collect()
+}
+
+/// The samples have the concrete classes 1, 2, 3, 4, 6 and 7, and methods for the first two with the next two.
+#[test]
+fn charts_of_the_samples() {
+    let with = |lapsed: &str| {
+        let lines = [
+            "        1    2    3    4    6    7\n",
+            "   1    -    -    2    0    -    -\n",
+            lapsed,
+            "   3    -    -    -    -    -    -\n",
+            "   4    -    -    -    -    -    -\n",
+            "   6    -    -    -    -    -    -\n",
+            "   7    -    -    -    -    -    -\n",
+        ];
+        lines.concat()
+    };
+    assert_eq!(whole_chart("chart-3"), with("   2    -    -    1    *    -    -\n"));
+    assert_eq!(whole_chart("chart-4"), with("   2    -    -    1    3    -    -\n"));
+    assert_eq!(whole_chart("chart-5"), with("   2    -    -    1    3    -    -\n"));
+}
+
+#[test]
+fn a_chart_is_of_two_arguments() {
+    for name in ["loop", "narrow-declared", "three-argument-tie"] {
+        assert_eq!(chart(&sample(name), &mut [0; SCRATCH], &mut [], 0, 99), Chart::NotBinary, "{name}");
     }
 }
 

@@ -5,6 +5,7 @@
 //! eight values, of which those that mean nothing are 0.
 
 mod bundle;
+mod chart;
 mod coverage;
 mod dispatch;
 mod listing;
@@ -25,6 +26,8 @@ pub const SCRATCH: usize = 128 * 128;
 pub const ROW: usize = 128;
 /// A length of buffer that is enough for every listing.
 pub const TEXT: usize = 512;
+/// A length of buffer that is enough for every line of a chart: that of 128 concrete classes.
+pub const LINE: usize = 5 + 5 * 128;
 
 /// What a call gives back.
 #[derive(Clone, Copy, Debug, PartialEq, Eq)]
@@ -61,8 +64,12 @@ impl From<Broken> for Reply {
 
 const ABSENT: u8 = 18;
 const SHORT_SCRATCH: u8 = 19;
-/// Of a row, or of the buffer for a text.
+/// Of a row, or of the buffer for a listing.
 const SHORT_BUFFER: u8 = 20;
+const NOT_BINARY: u8 = 21;
+const NO_LINE: u8 = 22;
+/// Of the buffer for a line of a chart.
+const SHORT_LINE: u8 = 23;
 
 /// Opens the bundle: the counts of classes, functions, signatures and methods.
 pub fn open(bundle: &[u8]) -> Reply {
@@ -205,9 +212,31 @@ pub fn run_accepted(bundle: &[u8], scratch: &mut [u8], function: u64, arguments:
 
 /// The listing, written to the start of the buffer: its length.
 pub fn listing(bundle: &[u8], text: &mut [u8]) -> Reply {
-    let lines = listing::lines(bundle);
+    written(&listing::lines(bundle), text, SHORT_BUFFER)
+}
+
+/// A line of the chart of a function of two arguments, written to the start of the buffer: its length.
+pub fn chart(bundle: &[u8], scratch: &mut [u8], text: &mut [u8], function: u64, line: u64) -> Reply {
+    let (bundle, matrix) = match prepare(bundle, scratch) {
+        Err(refusal) => return refusal,
+        Ok(prepared) => prepared,
+    };
+    let (function, line) = (function as usize, line as usize);
+    match bundle.functions.get(function) {
+        None => return Reply::new(ABSENT, &[]),
+        Some(2) => {}
+        Some(_) => return Reply::new(NOT_BINARY, &[]),
+    }
+    match chart::line(&bundle, &matrix, function, line) {
+        None => Reply::new(NO_LINE, &[]),
+        Some(line) => written(&line, text, SHORT_LINE),
+    }
+}
+
+/// Writes to the start of the buffer, and gives the length; or, where the buffer is too short, only the number for that.
+fn written(lines: &str, text: &mut [u8], short: u8) -> Reply {
     match text.get_mut(..lines.len()) {
-        None => Reply::new(SHORT_BUFFER, &[]),
+        None => Reply::new(short, &[]),
         Some(start) => {
             start.copy_from_slice(lines.as_bytes());
             Reply::new(0, &[lines.len()])

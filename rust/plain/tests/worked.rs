@@ -1,7 +1,7 @@
 //! The worked cases of the rules.
 
-use builder::{chart_3, chart_4, chart_5, looping, Parts, NEW};
-use plain::{Reply, ROW, SCRATCH, TEXT};
+use builder::{chart_3, chart_4, chart_5, looping, widest_chart, Parts, NEW};
+use plain::{Reply, LINE, ROW, SCRATCH, TEXT};
 
 fn reply(number: u8, named: &[u64]) -> Reply {
     let mut values = [0; 8];
@@ -110,4 +110,97 @@ fn listings() {
     assert_eq!(expected.len(), short.len() + 1);
     assert_eq!(plain::listing(&bundle, &mut short), reply(20, &[]));
     assert_eq!(short, [9; 90]);
+}
+
+/// The reply for a line of the chart of function 0, and the line.
+fn charted(parts: &Parts, line: u64) -> (Reply, String) {
+    let mut text = [0; LINE];
+    let reply = plain::chart(&parts.bytes(), &mut [7; SCRATCH], &mut text, 0, line);
+    let length = reply.values[0] as usize;
+    (reply, String::from_utf8_lossy(&text[..length]).into_owned())
+}
+
+fn line_of(line: &str) -> (Reply, String) {
+    (reply(0, &[line.len() as u64]), line.to_string())
+}
+
+fn refused(number: u8) -> (Reply, String) {
+    (reply(number, &[]), String::new())
+}
+
+#[test]
+fn charts() {
+    for parts in [chart_3(), chart_4(), chart_5()] {
+        let lapsed = if parts.methods.len() == 3 { '*' } else { '3' };
+        assert_eq!(charted(&parts, 0), line_of("        1    2    3    4    6    7\n"));
+        assert_eq!(charted(&parts, 1), line_of("   1    -    -    2    0    -    -\n"));
+        assert_eq!(charted(&parts, 2), line_of(&format!("   2    -    -    1    {lapsed}    -    -\n")));
+        for (line, class) in [(3, 3), (4, 4), (5, 6), (6, 7)] {
+            assert_eq!(charted(&parts, line), line_of(&format!("   {class}    -    -    -    -    -    -\n")));
+        }
+        assert_eq!(charted(&parts, 7), refused(22));
+    }
+}
+
+/// The method of a cell may be one that the send would be refused by.
+#[test]
+fn a_chart_shows_what_is_found() {
+    let parts = several_broken();
+    assert_eq!(charted(&parts, 1), line_of("   1    2    1    3\n"));
+    assert_eq!(charted(&parts, 2), line_of("   2    -    1    4\n"));
+    assert_eq!(charted(&parts, 3), line_of("   3    0    *    0\n"));
+}
+
+#[test]
+fn the_narrowest_chart_and_the_widest() {
+    let mut parts = Parts::default();
+    parts.class(false, &[]);
+    parts.function(2);
+    assert_eq!(charted(&parts, 0), line_of("    \n"));
+    assert_eq!(charted(&parts, 1), refused(22));
+    let parts = widest_chart();
+    for (line, start, end) in [
+        (0, "        0    1    2    3", " 125  126  127\n"),
+        (1, "   0    0    1    2    3", "  14   14   14\n"),
+        (23, "  22  506  507  508  509  510  511    *", "   *    *    *\n"),
+        (128, " 127  322  323  324  325", " 336  336  336\n"),
+    ] {
+        let (answer, text) = charted(&parts, line);
+        assert_eq!(answer, reply(0, &[LINE as u64]));
+        assert!(text.starts_with(start) && text.ends_with(end), "{text}");
+    }
+    assert_eq!(charted(&parts, 129), refused(22));
+}
+
+/// Each refusal comes before those that hold as well, and leaves the buffer as it was.
+#[test]
+fn refused_charts() {
+    let mut parts = chart_3();
+    parts.functions.extend([0, 1, 3]);
+    let bundle = parts.bytes();
+    let mut text = [9; 34];
+    let mut asked = |bundle: &[u8], scratch: &mut [u8], function, line| {
+        let reply = plain::chart(bundle, scratch, &mut text, function, line);
+        assert_eq!(text, [9; 34]);
+        reply
+    };
+    assert_eq!(asked(&bundle[1..], &mut [], 4, 7), reply(2, &[]));
+    assert_eq!(asked(&bundle, &mut [7; SCRATCH - 1], 4, 7), reply(19, &[]));
+    assert_eq!(asked(&bundle, &mut [7; SCRATCH], 4, 7), reply(18, &[]));
+    for function in 1..4 {
+        assert_eq!(asked(&bundle, &mut [7; SCRATCH], function, 7), reply(21, &[]));
+    }
+    assert_eq!(asked(&bundle, &mut [7; SCRATCH], 0, 7), reply(22, &[]));
+    assert_eq!(asked(&bundle, &mut [7; SCRATCH], 0, 6), reply(23, &[]));
+}
+
+#[test]
+fn a_chart_writes_its_line_and_the_scratch() {
+    let (mut scratch, mut text) = ([7; SCRATCH + 1], [9; 36]);
+    assert_eq!(plain::chart(&chart_3().bytes(), &mut scratch, &mut text, 0, 6), reply(0, &[35]));
+    assert_eq!(text, *b"   7    -    -    -    -    -    -\n\x09");
+    assert_eq!((scratch[128 * 4 + 3], scratch[128 * 3 + 4], scratch[SCRATCH]), (1, 0, 7));
+    let mut scratch = [7; SCRATCH];
+    assert_eq!(plain::chart(&chart_3().bytes(), &mut scratch, &mut [], 0, 6), reply(23, &[]));
+    assert!(scratch.iter().all(|&byte| byte < 2));
 }

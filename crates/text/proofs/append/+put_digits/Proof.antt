@@ -6,10 +6,10 @@ use mathlib.Core.Path.{_∙_}
 use lib.ListN.{length-set}
 use borrow.Fn.Kinds.{In}
 use borrow.Fn.PlainCycle.{Measures, is, falls, and}
-use Rattle.text.specs.Text.{digits}
+use Rattle.rules.specs.Decimal.{digits}
 use Rattle.text.specs.Appended.{Appended}
 use Rattle.text.proofs.Growing.{grown-byte, grown-both, grown-wider}
-use Rattle.text.proofs.Decimal.{digits-one, digits-more, room-more}
+use Rattle.rules.proofs.Decimal.{digits-one, digits-more, room-more}
 use Rattle.text.proofs.append.put_digits.Reads as put-digits
 use Rattle.text.proofs.append.put_digits.Kinds as put-digits-kinds
 use Rattle.text.proofs.append.+put_digits.Lts-put_digits as put-digits-lts

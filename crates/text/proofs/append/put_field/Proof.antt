@@ -1,6 +1,6 @@
 -- `text::append::put_field` meets its contract.
 -- Assumes nothing.
-use Rattle.text.specs.Text.{decimal}
+use Rattle.rules.specs.Decimal.{decimal}
 use Rattle.text.proofs.Growing.{grown-both}
 use borrow.Author.Needs.{needs}
 use Rattle.text.proofs.append.put_field.Statement.{statement}

@@ -31,7 +31,7 @@ unfolding verdictLine
 returns-2 c =
     let t = c .before .before in
     let M = modelOf (t .before .before .before .before .before .before .args .bundle .now) in
-    grown-as (ap (λ (x : finding-type.Finding). verdictLine M (verdictSaid (refusedWith x))) (sym (t .before .before .enum-told .given .1))) (grown-wider 268 (omega arith) (t .scratch-line .ensures M))
+    grown-as (ap (λ (x : finding-type.Finding). verdictLine M (verdictSaid (refusedWith x))) (sym (t .before .before .enum-told .given .1))) (grown-wider 268 (omega arith) (t .number-line .ensures M))
 
 returns-3 : tie.Need-returns-3
 unfolding verdictLine

@@ -6,7 +6,7 @@ use native.Mathlib.Omega.{arith}
 use mathlib.Core.Path.{_≡_, refl}
 use mathlib.Core.List.{[], _∷_, _++_}
 use borrow.Author.Tests.{lt-ltb, le-ltb}
-use Rattle.text.specs.Text.{digits}
+use Rattle.rules.specs.Decimal.{digits}
 
 -- one digit
 pub digits-one : (most n : ℕ) → 0 < most → n < 10 → digits most n ≡ (48 + n) ∷ []

@@ -1,10 +1,10 @@
--- `listing::read_rest` is safe and ends: the measure is the number of turns that are left.
+-- `input::read_rest` is safe and ends: the measure is the number of turns that are left.
 -- Assumes nothing.
 use mathlib.Core.Path.{_≡_}
 use lib.ListN.{length}
 use borrow.Author.Needs.{needs}
-use Rattle.listing.proofs.read_rest.Statement.{statement}
-use Rattle.listing.proofs.read_rest.Tie as tie
+use Rattle.input.proofs.read_rest.Statement.{statement}
+use Rattle.input.proofs.read_rest.Tie as tie
 
 abbrev Inv-loop : tie.InvT-loop
 Inv-loop rest₀ turns₀ rest turns = 4096 ≡ length rest

@@ -1,10 +1,10 @@
--- `text::line::scratch_line` meets its contract.
+-- `text::line::number_line` meets its contract.
 -- Assumes nothing.
 use Rattle.text.specs.Text.{field, finding, refusedLine}
 use Rattle.text.proofs.Growing.{grown-none, grown-both}
 use borrow.Author.Needs.{needs}
-use Rattle.text.proofs.line.scratch_line.Statement.{statement}
-use Rattle.text.proofs.line.scratch_line.Tie as tie
+use Rattle.text.proofs.line.number_line.Statement.{statement}
+use Rattle.text.proofs.line.number_line.Tie as tie
 
 returns : tie.Need-returns
 unfolding field finding refusedLine
@@ -13,8 +13,8 @@ returns c M =
     let s1 = s2 .before .before .before .before .before in
     grown-both (grown-both (s1 .put-field .ensures) (grown-none 0 _ _)) (s2 .put-word .ensures)
 
-pub scratch-line-spec : {M : Type 1} → statement M
-scratch-line-spec =
+pub number-line-spec : {M : Type 1} → statement M
+number-line-spec =
     tie.close
     (tie.spec
     (λ c. search needs)

@@ -1,4 +1,4 @@
--- A text as the list of its bytes. Every character of the listing is below 128.
+-- A text as the list of its bytes. Every character that is printed is below 128.
 -- Assumes nothing.
 use Prim.Native.Nat.{ℕ}
 use Prim.Native.Char.{code}

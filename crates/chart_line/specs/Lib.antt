@@ -1,0 +1,2 @@
+pub mod Concretes
+pub mod Charted

@@ -1,0 +1,39 @@
+// The line of a refused call, as the listing prints refusals.
+use crate::line::layout_line;
+use crate::line::number_line;
+use calls::refusal::Refusal;
+use curiumtoad::chart::ChartAnswer;
+ghost use Prim.Native.Nat.{_≤_};
+ghost use lib.ListN.{length};
+ghost use Rattle.rules.specs.Model.{Model};
+ghost use Rattle.calls.specs.Said.{refusalSaid};
+ghost use Rattle.chart_line.specs.Charted.{chartSaid};
+ghost use Rattle.text.specs.Text.{refusalLine};
+ghost use Rattle.text.specs.Appended.{Appended};
+
+// Writes the line of a refusal that comes before a call's own rules.
+fn early_line(text: &mut [u8], refusal: Refusal) -> usize
+    requires { ⌜ 76 ≤ length (now text) ⌝ }
+    ensures { λ r. ⌜ ((M : Model) → Appended 76 (now (text .entry)) 0 (refusalLine {A = Unit {0}} M (refusalSaid refusal)) (now (text .exit)) r) ⌝ }
+{
+    match refusal {
+        Refusal::Layout(found) => layout_line(text, 0, found),
+        Refusal::Scratch => number_line(text, 0, 19),
+        Refusal::Row => number_line(text, 0, 20),
+        Refusal::Absent => number_line(text, 0, 18),
+    }
+}
+
+// Writes the line of a chart call that is refused, and nothing where it is not.
+pub fn chart_refusal(text: &mut [u8], answer: ChartAnswer) -> usize
+    requires { ⌜ 76 ≤ length (now text) ⌝ }
+    ensures { λ r. ⌜ ((M : Model) → Appended 76 (now (text .entry)) 0 (refusalLine M (chartSaid answer)) (now (text .exit)) r) ⌝ }
+{
+    match answer {
+        ChartAnswer::Written(_) => 0,
+        ChartAnswer::Refused(refusal) => early_line(text, refusal),
+        ChartAnswer::NotBinary => number_line(text, 0, 21),
+        ChartAnswer::NoLine => number_line(text, 0, 22),
+        ChartAnswer::Short => number_line(text, 0, 23),
+    }
+}
