@@ -214,7 +214,8 @@ pub fn department() -> Vec<u8> {
 /// under class 1. Eight methods of the first function apply to each of their tuples, and one leads. Each of the other seven
 /// declares a class of its own, so that their declared classes tell all classes apart at every place; they find no tuple, so
 /// nothing is broken by it. Heavier methods of another function come before the eight in the order, so that all words of a
-/// set are gone through. Class 127 is under every class.
+/// set are gone through. A ninth method leads every set until the last place is filled, and applies there to class 127 alone, so
+/// that a leader has to be looked for with each tuple. Class 127 is under every class.
 fn told_apart() -> Parts {
     let mut parts = Parts::default();
     parts.class(false, &[]);
@@ -235,7 +236,8 @@ fn told_apart() -> Parts {
     for number in 0..7 {
         parts.methods[number].declared = [of_set[1 << number].expect("a set of one element has a class"); 3];
     }
-    for number in 0..504 {
+    parts.method(function, [1, 1, 127], 127, &body);
+    for number in 0..503 {
         parts.method(other, [127, (number / 128) as u8, (number % 128) as u8], 127, &body);
     }
     parts
