@@ -5,13 +5,8 @@ use input::read_bundle;
 use layout::bundle::Bundle;
 use libc::STDERR_FILENO;
 use libc::STDOUT_FILENO;
-use text::listing::matrix;
+use text::listing::ListingAnswer;
 use text::refusal::chart_refusal;
-ghost use mathlib.Core.Path.{_≡_};
-ghost use lib.ListN.{length};
-
-// The bytes of the longest line.
-const LINE: usize = 5 + 5 * Bundle::CLASSES;
 
 enum Argument {
     Number(usize),
@@ -42,16 +37,10 @@ fn number_of(word: &[u8]) -> Argument {
     Argument::Number(number)
 }
 
-fn room() -> [u8; LINE]
-    ensures { λ r. ⌜ 645 ≡ length r ⌝ }
-{
-    [0; LINE]
-}
-
 // Prints a line of the chart, or why there is none, and says whether to go on: behind the last line the chart is at its end.
 fn print_line(bundle: &[u8], function: usize, line: usize) -> bool {
-    let mut scratch = matrix();
-    let mut text = room();
+    let mut scratch = io::large_buffer();
+    let mut text = io::buffer();
     let answer = chart(bundle, &mut scratch, &mut text, function, line);
     if let ChartAnswer::Written(n) = answer {
         return io::write_all(STDOUT_FILENO, &text[..n]);
@@ -59,8 +48,9 @@ fn print_line(bundle: &[u8], function: usize, line: usize) -> bool {
     if let ChartAnswer::NoLine = answer {
         return false;
     }
-    let n = chart_refusal(&mut text, answer);
-    io::write_all(STDOUT_FILENO, &text[..n]);
+    if let ListingAnswer::Written(n) = chart_refusal(&mut text, answer) {
+        io::write_all(STDOUT_FILENO, &text[..n]);
+    }
     false
 }
 

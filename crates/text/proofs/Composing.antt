@@ -31,7 +31,7 @@ use Rattle.text.specs.declared.listing.ListingAnswer.the-variants as lis
 use Rattle.text.specs.Text.{countsLine, verdictLine, listingOn}
 use Rattle.text.specs.Text as text
 use Rattle.text.specs.Appended.{Appended}
-use Rattle.text.specs.Listed.{functionOf, Named, OpenedAs, Composed, Lists, layoutLine}
+use Rattle.text.specs.Listed.{functionOf, Named, OpenedAs, Composed, Lists, layoutLine, Written}
 use Rattle.text.proofs.Growing.{grown-both}
 
 -- how many values come with a number, and the second of them
@@ -124,30 +124,36 @@ composed-refused b f old new r e room a =
       written = a .text ∙ ap (λ (x : Answer (List ℕ)). listingOn x M) (sym (layout-refuses f) ∙ e);
     }
 
--- the text has as many bytes as were composed
-composed-length : {b own : List ℕ} {r : ℕ} (c : Composed b own r) → length (text.listing b) ≡ r
-composed-length {b} {own} {r} c = ap length (sym (c .written)) ∙ length-take-le r own (c .fits)
+-- A text at the start of an array of its own, and what a lent buffer holds by it: as before where it is too short, else the text with what was behind it.
+module _ (piece own : List ℕ) (r : ℕ) (fits : r ≤ length own) (written : take r own ≡ piece) where
+  piece-length : length piece ≡ r
+  piece-length = ap length (sym written) ∙ length-take-le r own fits
 
+  pub copied-short : (old : List ℕ) → length old < r → Written piece old old listing.Short
+  copied-short old h = (omega (arith, h, piece-length), refl)
+
+  pub copied-written : (old new : List ℕ) → r ≤ length old → new ≡ take (length (take r own)) (take r own) ++ drop (length (take r own)) old
+      → Written piece old new (listing.Written r)
+  copied-written old new h e =
+      let all : take (length (take r own)) (take r own) ≡ piece = take-length (take r own) ∙ written in (
+        sym piece-length,
+        omega (arith, h, piece-length),
+        e ∙ ap (λ (t : List ℕ). t ++ drop (length (take r own)) old) all ∙ ap (λ (t : List ℕ). piece ++ drop (length t) old) written,
+      )
+
+-- the same of the listing
 pub listed-short : (b own old : List ℕ) (r : ℕ) → Composed b own r → length old < r → Lists b old old listing.Short
-listed-short b own old r c h = record { written = (omega (arith, h, composed-length c), refl) }
+listed-short b own old r c h = record { written = copied-short (text.listing b) own r (c .fits) (c .written) old h }
 
 pub listed-written : (b own old new : List ℕ) (r : ℕ) → Composed b own r → r ≤ length old
     → new ≡ take (length (take r own)) (take r own) ++ drop (length (take r own)) old → Lists b old new (listing.Written r)
-listed-written b own old new r c h e =
-    let n = composed-length c in
-    let all : take (length (take r own)) (take r own) ≡ text.listing b = take-length (take r own) ∙ c .written in
-    record {
-      written = (
-        sym n,
-        omega (arith, h, n),
-        e
-            ∙ ap (λ (t : List ℕ). t ++ drop (length (take r own)) old) all
-            ∙ ap (λ (t : List ℕ). text.listing b ++ drop (length t) old) (c .written),
-      );
-    }
+listed-written b own old new r c h e = record { written = copied-written (text.listing b) own r (c .fits) (c .written) old new h e }
 
 -- what is written is within the buffer
+pub piece-within : (piece old new : List ℕ) {n : ℕ} {r : listing-type.ListingAnswer} → r ≡ listing.Written n → Written piece old new r → n ≤ length new
+piece-within piece old new e l =
+    let w = subst (Written piece old new) e l in
+    omega (arith, w .0, ap length (w .2), length-append piece (drop (length piece) old))
+
 pub written-within : {b old new : List ℕ} {n : ℕ} {r : listing-type.ListingAnswer} → r ≡ listing.Written n → Lists b old new r → n ≤ length new
-written-within {b} {old} {new} {n} e l =
-    let w = (subst (Lists b old new) e l) .written in
-    omega (arith, w .0, ap length (w .2), length-append (text.listing b) (drop (length (text.listing b)) old))
+written-within {b} {old} {new} e l = piece-within (text.listing b) old new e (l .written)

@@ -41,8 +41,7 @@ fn room() -> [u8; 512]
     [0; 512]
 }
 
-// A scratch, for callers that have none of their own.
-pub fn matrix() -> [u8; BYTES]
+fn matrix() -> [u8; BYTES]
     ensures { λ r. ⌜ length r ≡ scratchBytes ⌝ }
 {
     [0; BYTES]

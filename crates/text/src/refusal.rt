@@ -1,8 +1,11 @@
 // The line of a refused call, as the listing prints refusals.
 use crate::line::layout_line;
 use crate::line::number_line;
+use crate::listing::ListingAnswer;
+use bytes::copy;
 use calls::refusal::Refusal;
 use curiumtoad::chart::ChartAnswer;
+ghost use mathlib.Core.Path.{_≡_};
 ghost use Prim.Native.Nat.{_≤_};
 ghost use lib.ListN.{length};
 ghost use Rattle.rules.specs.Model.{Model};
@@ -10,6 +13,7 @@ ghost use Rattle.calls.specs.Said.{refusalSaid};
 ghost use Rattle.chart_line.specs.Charted.{chartSaid};
 ghost use Rattle.text.specs.Text.{refusalLine};
 ghost use Rattle.text.specs.Appended.{Appended};
+ghost use Rattle.text.specs.Listed.{Written};
 
 // Writes the line of a refusal that comes before a call's own rules.
 fn early_line(text: &mut [u8], refusal: Refusal) -> usize
@@ -25,7 +29,7 @@ fn early_line(text: &mut [u8], refusal: Refusal) -> usize
 }
 
 // Writes the line of a chart call that is refused, and nothing where it is not.
-pub fn chart_refusal(text: &mut [u8], answer: ChartAnswer) -> usize
+fn compose_line(text: &mut [u8], answer: ChartAnswer) -> usize
     requires { ⌜ 76 ≤ length (now text) ⌝ }
     ensures { λ r. ⌜ ((M : Model) → Appended 76 (now (text .entry)) 0 (refusalLine M (chartSaid answer)) (now (text .exit)) r) ⌝ }
 {
@@ -36,4 +40,24 @@ pub fn chart_refusal(text: &mut [u8], answer: ChartAnswer) -> usize
         ChartAnswer::NoLine => number_line(text, 0, 22),
         ChartAnswer::Short => number_line(text, 0, 23),
     }
+}
+
+// Room for the longest line of a refusal.
+fn room() -> [u8; 76]
+    ensures { λ r. ⌜ 76 ≡ length r ⌝ }
+{
+    [0; 76]
+}
+
+// Writes the line of a chart call that is refused to the start of the buffer, and nothing where it is not. 76 bytes are enough for any.
+pub fn chart_refusal(text: &mut [u8], answer: ChartAnswer) -> ListingAnswer
+    ensures { λ r. ⌜ ((M : Model) → Written (refusalLine M (chartSaid answer)) (now (text .entry)) (now (text .exit)) r) ⌝ }
+{
+    let mut own = room();
+    let n = compose_line(&mut own, answer);
+    if text.len() < n {
+        return ListingAnswer::Short;
+    }
+    copy(&own[..n], text);
+    ListingAnswer::Written(n)
 }

@@ -1,11 +1,13 @@
 -- `chart::print_line` is safe: what is written lies within the buffer.
 -- Assumes nothing.
-use native.Mathlib.Omega.{arith}
 use mathlib.Core.Path.{sym}
 use mathlib.Core.List.{[]}
 use lib.Seq.{length-take-le}
 use borrow.Author.Needs.{needs}
 use Rattle.rules.specs.Model.{modelOf}
+use Rattle.chart_line.specs.Charted.{chartSaid}
+use Rattle.text.specs.Text.{refusalLine}
+use Rattle.text.proofs.Composing.{piece-within}
 use Rattle.chart.proofs.Within.{line-within}
 use Rattle.chart.proofs.print_line.Statement.{statement}
 use Rattle.chart.proofs.print_line.Tie as tie
@@ -21,8 +23,10 @@ slice-aggregate-write-all c = sym (length-take-le _ _ (array-share-prefix-text (
 
 array-share-prefix-text-2 : tie.Need-array-share-prefix-text-2
 array-share-prefix-text-2 c =
-    let r = c .before .chart-refusal .ensures (modelOf []) in
-    omega (arith, r .bound, r .same)
+    let u = c .before .before .before .before in
+    let d = u .before .before .before .before .before .before in
+    let M = modelOf [] in
+    piece-within (refusalLine M (chartSaid (d .chart .result))) (d .chart .last .1 .1 .0) (u .chart-refusal .last .0) (c .before .n .given .1) (u .chart-refusal .ensures M)
 
 slice-aggregate-write-all-2 : tie.Need-slice-aggregate-write-all-2
 slice-aggregate-write-all-2 c = sym (length-take-le _ _ (array-share-prefix-text-2 (c .before)))
@@ -45,7 +49,10 @@ print-line-spec =
     (λ c. search needs)
     (λ c. search needs)
     (λ c κs. search needs)
+    (λ c. search needs)
     array-share-prefix-text-2
     slice-aggregate-write-all-2
     (λ c κs. search needs)
+    (λ c. search needs)
+    (λ c. search needs)
     (λ c. search needs))

@@ -1,80 +1,61 @@
--- `text::refusal::chart_refusal` meets its contract: case by case.
+-- `text::refusal::chart_refusal` meets its contract: the line is composed in an array of its own, and copied where it fits.
 -- Assumes nothing.
-use Prim.Native.Nat.{ℕ}
+use Prim.Native.Nat.{_≤_}
 use native.Mathlib.Omega.{arith}
-use mathlib.Core.Path.{_≡_, refl, _∙_}
+use mathlib.Core.Path.{sym}
+use mathlib.Core.List.{[]}
+use lib.ListN.{length}
+use lib.Seq.{length-take-le}
 use borrow.Author.Needs.{needs}
-use Rattle.rules.specs.Model.{Model}
-use Rattle.calls.specs.declared.refusal.Refusal.{Refusal}
-use Rattle.calls.specs.declared.refusal.Refusal.the-variants as refusal
-use Rattle.calls.specs.Said.{refusalSaid}
-use Rattle.chart_line.specs.declared.line.ChartAnswer.{ChartAnswer}
+use Rattle.rules.specs.Model.{modelOf}
 use Rattle.chart_line.specs.Charted.{chartSaid}
 use Rattle.text.specs.Text.{refusalLine}
-use Rattle.text.proofs.Growing.{grown-none, grown-wider, grown-as}
+use Rattle.text.proofs.Composing.{copied-short, copied-written}
 use Rattle.text.proofs.refusal.chart_refusal.Statement.{statement}
 use Rattle.text.proofs.refusal.chart_refusal.Tie as tie
 
--- what an answer that is told apart prints
-told : (M : Model) {x y : ChartAnswer} → x ≡ y → refusalLine M (chartSaid y) ≡ refusalLine M (chartSaid x)
-told M e = rw e
-
--- a refusal is printed alike for every call
-alike : (M : Model) (r : Refusal) → refusalLine {A = Unit {0}} M (refusalSaid r) ≡ refusalLine {A = ℕ} M (refusalSaid r)
-unfolding refusalLine
-alike M (refusal.Layout f) = refl
-alike M refusal.Scratch = refl
-alike M refusal.Row = refl
-alike M refusal.Absent = refl
+-- the line is within the array
+fits : (c : tie.After-compose-line) → c .compose-line .result ≤ length (c .compose-line .last .0)
+fits c =
+    let a = c .compose-line .ensures (modelOf []) in
+    omega (arith, a .bound, a .same, c .before .before .room .ensures)
 
 returns : tie.Need-returns
-unfolding refusalLine
-returns c M = grown-as (told M (c .enum-told .given .1)) (grown-none 76 _ 0)
+returns c M =
+    let u = c .before .before in
+    let s = u .before .before .before .before in
+    let a = u .compose-line .ensures M in
+    copied-short (refusalLine M (chartSaid (s .args .answer))) (u .compose-line .last .0) (u .compose-line .result) (fits u) (a .text) (s .args .text .now) (c .if1 .taken)
+
+slice-aggregate-copy : tie.Need-slice-aggregate-copy
+slice-aggregate-copy c =
+    let u = c .before .before .before in
+    sym (length-take-le (u .compose-line .result) (u .compose-line .last .0) (fits u))
+
+copy-requires : tie.Need-copy-requires
+copy-requires c κs =
+    let u = c .before .before .before .before in
+    omega (arith, c .before .before .if1 .left, length-take-le (u .compose-line .result) (u .compose-line .last .0) (fits u))
 
 returns-2 : tie.Need-returns-2
-unfolding refusalLine
 returns-2 c M =
     let t = c .before .before in
-    let g = t .before .before .before .answer .given in
-    grown-as (alike M (g .0 .0) ∙ told M (g .1)) (t .early-line .ensures M)
-
-returns-3 : tie.Need-returns-3
-unfolding refusalLine
-returns-3 c M =
-    let t = c .before .before in
-    grown-as (told M (t .before .before .enum-told2 .given .1)) (grown-wider 76 (omega arith) (t .number-line .ensures M))
-
-returns-4 : tie.Need-returns-4
-unfolding refusalLine
-returns-4 c M =
-    let t = c .before .before in
-    grown-as (told M (t .before .before .enum-told3 .given .1)) (grown-wider 76 (omega arith) (t .number-line2 .ensures M))
-
-returns-5 : tie.Need-returns-5
-unfolding refusalLine
-returns-5 c M =
-    let t = c .before .before in
-    grown-as (told M (t .before .before .enum-told4 .given .1)) (grown-wider 76 (omega arith) (t .number-line3 .ensures M))
+    let e = t .before .before .before in
+    let u = e .before .before in
+    let s = u .before .before .before .before in
+    let a = u .compose-line .ensures M in
+    copied-written (refusalLine M (chartSaid (s .args .answer))) (u .compose-line .last .0) (u .compose-line .result) (fits u) (a .text) (s .args .text .now) _ (e .if1 .left) (t .copy .ensures .1)
 
 pub chart-refusal-spec : {M : Type 1} → statement M
 chart-refusal-spec =
     tie.close
     (tie.spec
-    (λ c. search needs)
-    (λ c. search needs)
-    (λ c κs. search needs)
-    (λ c. search needs)
-    (λ c κs. search needs)
-    (λ c. search needs)
     (λ c κs. search needs)
     (λ c. search needs)
     (λ c κs. search needs)
     returns
+    (λ c. fits (c .before .before))
+    slice-aggregate-copy
+    copy-requires
     (λ c. search needs)
-    returns-2
-    (λ c. search needs)
-    returns-3
-    (λ c. search needs)
-    returns-4
-    (λ c. search needs)
-    returns-5)
+    returns-2)
