@@ -100,11 +100,16 @@ SAMPLES = {
     # Two signatures have no method, and the one body that there is ends with two values: the lower signature is named.
     "three-faults": bundle(ALONE, [0, 0, 0], [(0, [], 0), (1, [], 0)], [(2, [], [], 0, [(NEW, 0), (NEW, 0)])]),
     # Three broken tuples: (1, 3) by 12 is the first; (2, 1) by 10 would be if the second place turned slowest, or the numbers were tried for all tuples
-    # in turn; (3, 2) by 11, between the two lowest methods, is the last.
+    # in turn; (3, 2) by 11, between methods 1 and 0, is the last.
     "several-broken": bundle(
         [(ABSTRACT, [])] + [(CONCRETE, [0])] * 3, [2], [(0, [0, 0], 0)],
         [(0, args, declared, 0, [(NEW, 1)]) for args, declared in [
             ([3, 0], [3, 0]), ([0, 2], [0, 2]), ([1, 1], [1, 1]), ([1, 3], [1, 1]), ([2, 3], [2, 3])]]),
+    # All five methods apply to class 5 and 0, 1 and 3 are rivals, so that 11 names 3 and 1: not 0 and 1, the lowest rivals; not 4 and 3, the highest
+    # methods that apply; not 3 and 2, the highest rival and the method below it; not 3 and 0, the highest and the lowest rival.
+    "three-rivals": bundle(
+        [(ABSTRACT, []), (ABSTRACT, [0]), *[(ABSTRACT, [1])] * 3, (CONCRETE, [2, 3, 4])], [1], [(0, [0], 0)],
+        [(0, [c], [c], 0, [(NEW, 5)]) for c in [2, 3, 1, 4, 0]]),
 }
 
 
@@ -146,8 +151,8 @@ CHARTED = ["chart-3", "chart-4", "chart-5", "no-concrete-class", "102-methods"]
 # program.
 SHOWN = {
     "chart-3": (
-        "refused by 11: two methods apply to (2, 4) and neither leads",
-        ["classes 8 functions 1 signatures 1 methods 3", "refused 11 signature 0 send 0 2 4 methods 0 1"]),
+        "refused by 11: three methods apply to (2, 4) and none leads",
+        ["classes 8 functions 1 signatures 1 methods 3", "refused 11 signature 0 send 0 2 4 methods 1 0"]),
     "chart-4": (
         "accepted: a fourth method settles that send",
         ["classes 8 functions 1 signatures 1 methods 4", "accepted"]),
@@ -234,7 +239,10 @@ SHOWN = {
         ["classes 3 functions 1 signatures 1 methods 1", "refused 10 signature 0 send 0 2"]),
     "three-argument-tie": (
         "refused by 11: one method is more special at the first argument, the other at the last",
-        ["classes 2 functions 1 signatures 1 methods 2", "refused 11 signature 0 send 0 1 1 1 methods 0 1"]),
+        ["classes 2 functions 1 signatures 1 methods 2", "refused 11 signature 0 send 0 1 1 1 methods 1 0"]),
+    "three-rivals": (
+        "refused by 11: of three rivals the two with the highest numbers, the higher first, and neither of the two beaten methods",
+        ["classes 6 functions 1 signatures 1 methods 5", "refused 11 signature 0 send 0 5 methods 3 1"]),
     "narrow-declared": (
         "refused by 12: the method found declares a narrower class than it applies to",
         ["classes 2 functions 1 signatures 1 methods 1", "refused 12 signature 0 send 0 0 method 0"]),

@@ -41,7 +41,7 @@
 #include <stdint.h>
 
 /* Raised by each change of the bundle's layout, of what scratch, row or values hold or how large they are, or of the arguments of a function. */
-#define CURIUMTOAD_VERSION 1
+#define CURIUMTOAD_VERSION 2
 
 #define CURIUMTOAD_BUNDLE_BYTES 65535  /* the most that a bundle may have */
 #define CURIUMTOAD_SCRATCH_BYTES 16384
@@ -72,7 +72,7 @@ enum curiumtoad_number {
 
     /* A send fails, or breaks a signature. These have the send, and the signature before it from check and witness. */
     CURIUMTOAD_NO_METHOD = 10,       /* no method applies */
-    CURIUMTOAD_AMBIGUOUS = 11,       /* none of those that apply leads; with the two rivals, lower first */
+    CURIUMTOAD_AMBIGUOUS = 11,       /* none of those that apply leads; with the two highest that no other beats, higher first */
     CURIUMTOAD_NARROW_DECLARED = 12, /* a declared class does not hold its argument; with the method */
     CURIUMTOAD_WIDE_RESULT = 13,     /* the method's result class is not under the signature's; with the method */
 
@@ -119,7 +119,7 @@ enum curiumtoad_place {
     /* 4 to 9 */
     CURIUMTOAD_AT_RECORD = 0,
 
-    /* 10 to 12 from lookup and run */
+    /* 10 to 12 from lookup and run; of the two rivals of 11 METHOD is the higher, RIVAL the lower */
     CURIUMTOAD_AT_SEND_FUNCTION = 0,
     CURIUMTOAD_AT_SEND_A0 = 1,
     CURIUMTOAD_AT_SEND_A1 = 2,
@@ -127,7 +127,7 @@ enum curiumtoad_place {
     CURIUMTOAD_AT_SEND_METHOD = 4,
     CURIUMTOAD_AT_SEND_RIVAL = 5,
 
-    /* 10 to 13 from check, witness and run_accepted */
+    /* 10 to 13 from check, witness and run_accepted; the rivals likewise */
     CURIUMTOAD_AT_BROKEN_SIGNATURE = 0,
     CURIUMTOAD_AT_BROKEN_FUNCTION = 1,
     CURIUMTOAD_AT_BROKEN_A0 = 2,

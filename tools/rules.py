@@ -146,36 +146,49 @@ def ancestry(bundle, a, b):
     return (0, [int(b in sets[a])]) if max(a, b) < len(sets) else (ABSENT, [])
 
 
+def all_under(bundle, classes, others):
+    """whether each class is under the other one at its place"""
+    sets = above(bundle)
+    return all(other in sets[c] for c, other in zip(classes, others))
+
+
+def arity_of(bundle, function):
+    return bundle[spans(bundle)[2][0] + function]
+
+
+def applicable(bundle, function, *places):
+    """from each method that applies to a send to its specialisers"""
+    arity, (at, length) = arity_of(bundle, function), spans(bundle)[4]
+    methods = {m: record[1:1 + arity] for m, record in enumerate(records(bundle[at:][:length], 12)) if record[0] == function}
+    return {m: own for m, own in methods.items() if all_under(bundle, places, own)}
+
+
+def rivals(bundle, function, *places):
+    """the applicable methods that no other one is at least as specific as, the highest number first"""
+    methods = applicable(bundle, function, *places)
+    return [m for m, own in reversed(methods.items()) if not any(all_under(bundle, others, own) for o, others in methods.items() if o != m)]
+
+
 def lookup(bundle, function, *places):
-    """number and values, of an opened bundle: the method found; or the function and the places, with the rivals for 11"""
-    sets, (at, functions), (method_at, length) = above(bundle), spans(bundle)[2], spans(bundle)[4]
-    if function >= functions:
+    """number and values, of an opened bundle: the method found; or the function and the places, with the two newest rivals for 11, the newer first"""
+    if function >= spans(bundle)[2][1]:
         return ABSENT, []
-    arity = bundle[at + function]
-    if any(c >= len(sets) for c in places[:arity]) or any(places[arity:]):
+    arity = arity_of(bundle, function)
+    if any(c >= len(above(bundle)) for c in places[:arity]) or any(places[arity:]):
         return ABSENT, []
-
-    def under(classes, others):
-        return all(other in sets[c] for c, other in zip(classes[:arity], others))
-
-    applicable = {
-        m: record[1:4] for m, record in enumerate(records(bundle[method_at:][:length], 12)) if record[0] == function and under(places, record[1:4])}
-    if not applicable:
+    methods = applicable(bundle, function, *places)
+    if not methods:
         return 10, [function, *places]
-    leading = [m for m, own in applicable.items() if all(under(own, others) for others in applicable.values())]
+    leading = [m for m, own in methods.items() if all(all_under(bundle, own, others) for others in methods.values())]
     if leading:
         return 0, leading
-    unbeaten = [m for m, own in applicable.items() if not any(under(others, own) for o, others in applicable.items() if o != m)]
-    return 11, [function, *places, *unbeaten[:2]]
+    return 11, [function, *places, *rivals(bundle, function, *places)[:2]]
 
 
 def is_covered(bundle, function, *places):
     """whether some signature of the function has each class of a send of it under its class at that place"""
-    sets, (at, _), (signature_at, length) = above(bundle), spans(bundle)[2], spans(bundle)[3]
-    arity = bundle[at + function]
-    return any(
-        record[0] == function and all(other in sets[c] for c, other in zip(places[:arity], record[1:4]))
-        for record in records(bundle[signature_at:][:length], 5))
+    arity, (at, length) = arity_of(bundle, function), spans(bundle)[3]
+    return any(record[0] == function and all_under(bundle, places, record[1:1 + arity]) for record in records(bundle[at:][:length], 5))
 
 
 @functools.cache
@@ -217,10 +230,9 @@ def chart_text(bundle, function):
 
 def chart(bundle, function, line, buffer):
     """number and values, of an opened bundle, for a line of a chart in a buffer of so many bytes: the length of the line"""
-    at, functions = spans(bundle)[2]
-    if function >= functions:
+    if function >= spans(bundle)[2][1]:
         return ABSENT, []
-    if bundle[at + function] != 2:
+    if arity_of(bundle, function) != 2:
         return NOT_BINARY, []
     if line not in chart_lines(bundle):
         return NO_LINE, []

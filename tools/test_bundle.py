@@ -393,8 +393,8 @@ LINES = [
     ("refused 10 signature 0 send 0 1 0", f"refused: arm(Session, Any) finds no method, {SIGNATURE}"),
     ("refused 10 signature 1 send 1", "refused: tick() finds no method, for signature 1 tick() -> Any"),
     (
-        "refused 11 signature 0 send 0 1 1 methods 1 2",
-        f"refused: arm(Session, Session) is ambiguous between method 1 arm(Session, Any : Session) and method 2 arm(Any, Session), {SIGNATURE}"),
+        "refused 11 signature 0 send 0 1 1 methods 2 1",
+        f"refused: arm(Session, Session) is ambiguous between method 2 arm(Any, Session) and method 1 arm(Session, Any : Session), {SIGNATURE}"),
     (
         "refused 12 signature 0 send 0 1 0 method 1",
         f"refused: arm(Session, Any) finds method 1 arm(Session, Any : Session), whose declared classes do not hold the arguments, {SIGNATURE}"),
@@ -437,7 +437,7 @@ UNEXPLAINED = [
     ("refused 10 signature 0 send 1", OTHER_FUNCTION),
     ("refused 10 signature 0 send 0 1", OTHER_FUNCTION),
     ("refused 12 signature 0 send 0 1 0 method 3", "the text has no method 3"),
-    ("refused 11 signature 0 send 0 1 1 methods 0 1", "method 0 of the text is of another function than the send"),
+    ("refused 11 signature 0 send 0 1 1 methods 1 0", "method 0 of the text is of another function than the send"),
     ("refused 13 signature 0 send 0 1 1 method 0", "method 0 of the text is of another function than the send"),
     ("refused 14 method 0 at 0", "14 is no refusal of what the text has at 0 in method 0 tick()"),
     ("refused 15 method 0 at 2", "15 is no refusal of what the text has at 2 in method 0 tick()"),
@@ -472,7 +472,7 @@ class Explain(unittest.TestCase):
         self.assertIn(f"```\n{explained}```", DOCUMENTATION)
         self.assertEqual(explained, (
             "8 classes, 1 function, 1 signature, 3 methods\n"
-            "refused: arm(Lapsed, SharedBench) is ambiguous between method 0 arm(Session, SharedBench) and method 1 arm(Lapsed, Bench), "
+            "refused: arm(Lapsed, SharedBench) is ambiguous between method 1 arm(Lapsed, Bench) and method 0 arm(Session, SharedBench), "
             "for signature 0 arm(Session, Bench) -> Outcome\n"))
 
     def test_samples_have_listings_that_fit_them(self):

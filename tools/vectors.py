@@ -4,14 +4,18 @@
 usage: tools/vectors.py FOLDER          write them, from the vectors of FOLDER (JSON lines), the cases that the rules name and the sample bundles
        tools/vectors.py FOLDER --check  write nothing; say which files differ, and exit with 1 if any does
        tools/vectors.py one N           from the cases on standard input write the one numbered N, with its bundle, to standard output
+       tools/vectors.py FOLDER current OUT
+                                        write the vectors of FOLDER alone, with the answers of the rules as they stand, to OUT, an empty or new folder
+
+Vectors in a folder whose name is two digits follow the rules with the requests up to that number, those in any other folder the rules before the first
+request. Answers that a later request changed are brought to the rules as they stand where vectors are read (earlier.py).
 
 The rules for opening, ancestry, lookup and charts stand a second time in rules.py. They give the answers for bundles that no vector has, and every
 vector is held to them, so that an answer on which the two differ is never passed on. The other answers, of runs, checks, send types and witnesses,
-are those of the vectors and of the rules' own cases as they stand; those for bundles made here are worked out by hand from its rules. The answers of accepted
+are taken from the vectors and the rules' own cases; those for bundles made here are worked out by hand from its rules. The answers of accepted
 runs follow from those of the run and the check and from which signatures cover the send.
 """
 import itertools
-import json
 import pathlib
 import sys
 
@@ -19,10 +23,11 @@ ROOT = pathlib.Path(__file__).resolve().parent.parent
 sys.dont_write_bytecode = True
 sys.path.insert(0, str(ROOT / "bundles"))
 import make  # noqa: E402
+from earlier import entries, write_current  # noqa: E402
 from made import write_or_check  # noqa: E402
 from rules import (  # noqa: E402
-    ABSENT, ASKED, CLASSES, FUNCTIONS, LONGEST, MATRIX, METHODS, PLACES, SHORT, SHORT_ROW, SIGNATURES, asked, chart_line, chart_lines, instruction,
-    is_covered, opening, reading, refused, spans, view)
+    ABSENT, ASKED, CLASSES, FUNCTIONS, LONGEST, MATRIX, METHODS, PLACES, SHORT, SHORT_ROW, SIGNATURES, arity_of, asked, chart_line, chart_lines,
+    instruction, is_covered, opening, reading, refused, view)
 from stream import ROW, SCRATCH, SCRATCHED, Call, ended, one, reply, stream_of, tally  # noqa: E402
 
 MOST = 2**32 - 1
@@ -194,7 +199,7 @@ def held(bundle, answer, second):
 
 
 # The later parts of the rules that have vectors of their own, beside those of the folder itself.
-LATER = ["requests/01", "requests/02"]
+LATER = ["requests/01", "requests/02", "requests/03"]
 
 
 def vectors(folder, name):
@@ -202,8 +207,7 @@ def vectors(folder, name):
     if not paths:
         sys.exit(f"there are no vectors {name} in {folder}")
     for path in paths:
-        for line in path.read_text().splitlines():
-            entry = json.loads(line)
+        for entry in entries(path):
             yield entry, bytes.fromhex(entry["bundle"])
 
 
@@ -274,24 +278,24 @@ def answer_values(answer):
     return [answer["method"] if "method" in answer else int(answer["answer"] == "yes")]
 
 
-# P 1 to P 5: (bundle, argument classes of function 0, number, values)
+# P 1 to P 5, and a send with three rivals: (bundle, argument classes of function 0, number, values)
 P_CASES = [
     ("chart-3", [1, 3], 0, [2]),
     ("chart-3", [1, 4], 0, [0]),
     ("chart-3", [2, 3], 0, [1]),
-    ("chart-3", [2, 4], 11, [0, 2, 4, 0, 0, 1]),
+    ("chart-3", [2, 4], 11, [0, 2, 4, 0, 1, 0]),
     ("chart-4", [2, 4], 0, [3]),
+    ("three-rivals", [5], 11, [0, 5, 0, 0, 3, 1]),
 ]
 
 
 def every_question(bundle):
     """(kind, numbers) for each pair of classes and each function with each tuple, and with numbers that are absent or out of place"""
     classes, functions = opening(bundle)[1][:2]
-    at = spans(bundle)[2][0]
     for a, b in itertools.product([*range(classes), CLASSES, LONGEST], repeat=2):
         yield "ancestry", [a, b]
     for function in range(functions):
-        arity = bundle[at + function]
+        arity = arity_of(bundle, function)
         unused = [0] * (PLACES - arity)
         for places in itertools.product(range(classes), repeat=arity):
             yield "lookup", [function, *places, *unused]
@@ -310,7 +314,7 @@ def lookup_answers(folder):
             kind = next(kind for kind in ASKED if kind in call)
             yield bundle, SCRATCH, kind, call[kind], call["answer"]["number"], answer_values(call["answer"])
     for name, places, number, values in P_CASES:
-        yield make.SAMPLES[name], SCRATCH, "lookup", [0, *places, 0], number, values
+        yield make.SAMPLES[name], SCRATCH, "lookup", [0, *make.padded(places)], number, values
 
     def answered(bundle, scratch, questions):
         for kind, numbers in questions:
@@ -387,7 +391,8 @@ RUNS = [
     ("loop", [0, 0, 0, 0], 33, 31, "deep", []),
     ("loop", [0, 0, 0, 0], MOST, 31, "deep", []),
     # The opening lookup fails, whatever the count; then what the opening body does.
-    ("chart-3", [0, 2, 4, 0], 0, 0, 11, [0, 2, 4, 0, 0, 1]),
+    ("chart-3", [0, 2, 4, 0], 0, 0, 11, [0, 2, 4, 0, 1, 0]),
+    ("three-rivals", [0, 5, 0, 0], 1, 0, 11, [0, 5, 0, 0, 3, 1]),
     ("narrow-declared", [0, 0, 0, 0], 0, 0, 12, [0, 0, 0, 0, 0]),
     ("abstract-argument", [0, 0, 0, 0], 1, 0, ABSENT, []),
     ("two-values", [0, 0, 0, 0], 2, 2, 14, [0, 2]),
@@ -433,7 +438,8 @@ def run_cases(folder):
 
 # The checks that the rules name, and of the samples that break one rule each: (bundle, number, values)
 CHECKS = [
-    ("chart-3", 11, [0, 0, 2, 4, 0, 0, 1]),
+    ("chart-3", 11, [0, 0, 2, 4, 0, 1, 0]),
+    ("three-rivals", 11, [0, 0, 5, 0, 0, 3, 1]),
     ("chart-4", 0, []),
     ("one-class", 0, []),
     ("abstract-argument", 0, []),
@@ -508,7 +514,8 @@ def send_type_cases(folder):
 
 # Witness checks of the samples: (bundle, numbers, number, values)
 WITNESSES = [
-    ("chart-3", [0, 2, 4, 0], 11, [0, 0, 2, 4, 0, 0, 1]),
+    ("chart-3", [0, 2, 4, 0], 11, [0, 0, 2, 4, 0, 1, 0]),
+    ("three-rivals", [0, 5, 0, 0], 11, [0, 0, 5, 0, 0, 3, 1]),
     ("chart-3", [0, 1, 4, 0], 0, []),
     ("chart-4", [0, 2, 4, 0], 0, []),
     ("chart-5", [1, 2, 4, 0], 0, []),
@@ -630,15 +637,9 @@ def all_cases(folder):
     return cases, repeats
 
 
-def main():
-    if len(sys.argv) == 3 and sys.argv[1] == "one":
-        case, said = one(sys.stdin.buffer.read(), int(sys.argv[2]))
-        print(said, file=sys.stderr)
-        sys.exit(sys.stdout.buffer.write(case) != len(case))
-    folders = [argument for argument in sys.argv[1:] if argument != "--check"]
-    if len(folders) != 1:
-        sys.exit(__doc__)
-    cases, repeats = all_cases(pathlib.Path(folders[0]))
+def wanted_files(folder):
+    """from each path to its bytes"""
+    cases, repeats = all_cases(folder)
     crate = ROOT / "crates" / "call_cases"
     wanted = {
         crate / "stdin": stream_of(cases),
@@ -649,8 +650,22 @@ def main():
         for name, ending in [("stdin", "bundle"), ("stdout", program)]:
             wanted[ROOT / "crates" / program / name] = (ROOT / "bundles" / f"chart-3.{ending}").read_bytes()
     print(f"{len(cases)} bundles, {sum(map(len, cases.values()))} cases, {repeats} repeats left out", file=sys.stderr)
-    sys.exit(write_or_check(ROOT, wanted, "--check" in sys.argv[1:]))
+    return wanted
+
+
+def main(arguments):
+    match arguments:
+        case ["one", number]:
+            alone, said = one(sys.stdin.buffer.read(), int(number))
+            print(said, file=sys.stderr)
+            sys.exit(sys.stdout.buffer.write(alone) != len(alone))
+        case [folder, "current", out]:
+            write_current(pathlib.Path(folder), pathlib.Path(out))
+        case [folder] | [folder, "--check"]:
+            sys.exit(write_or_check(ROOT, wanted_files(pathlib.Path(folder)), "--check" in arguments))
+        case _:
+            sys.exit(__doc__)
 
 
 if __name__ == "__main__":
-    main()
+    main(sys.argv[1:])

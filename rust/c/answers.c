@@ -81,7 +81,11 @@ static void sends(void)
     HOLDS(curiumtoad_lookup(BUNDLE, SCRATCH, 0, 1, 3, 0, v) == CURIUMTOAD_OK && v[CURIUMTOAD_AT_FOUND] == 2);
     HOLDS(curiumtoad_lookup(BUNDLE, SCRATCH, 0, 2, 4, 0, v) == CURIUMTOAD_AMBIGUOUS);
     HOLDS(v[CURIUMTOAD_AT_SEND_FUNCTION] == 0 && v[CURIUMTOAD_AT_SEND_A0] == 2 && v[CURIUMTOAD_AT_SEND_A1] == 4 && v[CURIUMTOAD_AT_SEND_A2] == 0);
-    HOLDS(v[CURIUMTOAD_AT_SEND_METHOD] == 0 && v[CURIUMTOAD_AT_SEND_RIVAL] == 1);
+    HOLDS(v[CURIUMTOAD_AT_SEND_METHOD] == 1 && v[CURIUMTOAD_AT_SEND_RIVAL] == 0);
+    /* Methods 0, 1 and 3 are rivals; 2 and 4 apply too and are beaten. */
+    use("three-rivals");
+    HOLDS(curiumtoad_lookup(BUNDLE, SCRATCH, 0, 5, 0, 0, v) == CURIUMTOAD_AMBIGUOUS);
+    HOLDS(v[CURIUMTOAD_AT_SEND_METHOD] == 3 && v[CURIUMTOAD_AT_SEND_RIVAL] == 1);
     use("chart-5");
     HOLDS(curiumtoad_send_type(BUNDLE, SCRATCH, row, sizeof row, 0, 2, 4, 0, v) == CURIUMTOAD_OK && row[5] == 1 && row[6] == 0 && row[7] == 1);
     HOLDS(curiumtoad_send_type(BUNDLE, SCRATCH, row, sizeof row - 1, 0, 2, 4, 0, v) == CURIUMTOAD_SHORT_BUFFER);
@@ -91,7 +95,12 @@ static void findings(void)
 {
     use("chart-3");
     HOLDS(curiumtoad_check(BUNDLE, SCRATCH, v) == CURIUMTOAD_AMBIGUOUS);
-    HOLDS(v[CURIUMTOAD_AT_BROKEN_METHOD] == 0 && v[CURIUMTOAD_AT_BROKEN_RIVAL] == 1);
+    HOLDS(v[CURIUMTOAD_AT_BROKEN_METHOD] == 1 && v[CURIUMTOAD_AT_BROKEN_RIVAL] == 0);
+    use("three-rivals");
+    HOLDS(curiumtoad_check(BUNDLE, SCRATCH, v) == CURIUMTOAD_AMBIGUOUS && v[CURIUMTOAD_AT_BROKEN_A0] == 5);
+    HOLDS(v[CURIUMTOAD_AT_BROKEN_METHOD] == 3 && v[CURIUMTOAD_AT_BROKEN_RIVAL] == 1);
+    HOLDS(curiumtoad_witness(BUNDLE, SCRATCH, 0, 5, 0, 0, v) == CURIUMTOAD_AMBIGUOUS);
+    HOLDS(v[CURIUMTOAD_AT_BROKEN_METHOD] == 3 && v[CURIUMTOAD_AT_BROKEN_RIVAL] == 1);
     /* The result of signature 1 becomes class 6, which method 1 does not keep to. The signatures begin where bytes 12 and 13 say, and have five bytes each. */
     use("chart-5");
     b.bytes[b.bytes[12] + 256 * b.bytes[13] + 9] = 6;
@@ -109,6 +118,9 @@ static void runs(void)
     HOLDS(v[CURIUMTOAD_AT_CLASS] == 7 && v[CURIUMTOAD_AT_STEPS] == 1);
     HOLDS(curiumtoad_run_accepted(BUNDLE, SCRATCH, 0, 6, 7, 0, 9, v) == CURIUMTOAD_ABSENT && v[CURIUMTOAD_AT_REASON] == CURIUMTOAD_REASON_NOT_COVERED);
     HOLDS(curiumtoad_run_accepted(BUNDLE, SCRATCH, 0, 8, 4, 0, 9, v) == CURIUMTOAD_ABSENT && v[CURIUMTOAD_AT_REASON] == CURIUMTOAD_REASON_WRONG_CALL);
+    use("three-rivals");
+    HOLDS(curiumtoad_run(BUNDLE, SCRATCH, 0, 5, 0, 0, 9, v) == CURIUMTOAD_AMBIGUOUS && v[CURIUMTOAD_AT_STEPS] == 0);
+    HOLDS(v[CURIUMTOAD_AT_SEND_METHOD] == 3 && v[CURIUMTOAD_AT_SEND_RIVAL] == 1);
     use("loop");
     HOLDS(curiumtoad_run_accepted(BUNDLE, SCRATCH, 0, 0, 0, 0, 31, v) == CURIUMTOAD_OK && v[CURIUMTOAD_AT_ENDING] == CURIUMTOAD_ENDING_SPENT);
     HOLDS(curiumtoad_run_accepted(BUNDLE, SCRATCH, 0, 0, 0, 0, 32, v) == CURIUMTOAD_OK && v[CURIUMTOAD_AT_ENDING] == CURIUMTOAD_ENDING_DEEP);

@@ -39,7 +39,7 @@ fn give(values: &mut [usize; 8], reply: Reply) -> u8
 pub extern "C" fn curiumtoad_version() -> u32
     ensures { λ r. ⌜ r ≡ version ⌝ }
 {
-    1
+    2
 }
 
 // Opening: the four counts.

@@ -1,4 +1,4 @@
--- Lists that a loop makes or counts by keeping what passes a test.
+-- Lists that a loop makes by keeping what passes a test.
 -- Assumes nothing.
 use Prim.Native.Nat.{ℕ, zero, suc, _+_, _≤_, _<_}
 use native.Mathlib.Nat.{eq-or-lt-of-le}
@@ -8,10 +8,10 @@ use mathlib.Core.Path.{_≡_, refl, sym, ap, subst, _∙_}
 use mathlib.Core.Bool.{Bool, true, false}
 use mathlib.Core.Logic.{_⊎_, inl, inr}
 use mathlib.Core.List.{List, [], _∷_, _++_}
-use lib.ListN.{length, getD, take, drop, set, length-append, length-set, List·getD-eq-default}
-use lib.Seq.{take-suc-set, take-all, split-at, getD-at}
+use lib.ListN.{length, getD, take, set, length-set}
+use lib.Seq.{take-suc-set, take-all}
 use Rattle.rules.specs.Bounded.{upto, keep}
-use Rattle.rules.proofs.Lists.{keep-hit, keep-append, keep-take-hit, keep-take-miss, length-upto, getD-upto}
+use Rattle.rules.proofs.Lists.{keep-take-hit, keep-take-miss, length-upto, getD-upto}
 use Rattle.dispatch.specs.Listed.{Written}
 
 -- A loop over a list writes what passes into a lent one: of the first i elements, `kept` have passed.
@@ -69,20 +69,3 @@ upto-skip p n old {list} {i} {kept} k (suc j) l h none =
     go (inl e) rest = subst (λ (m : ℕ). Keeping p (upto n) old list m kept) e k
     go (inr r) rest =
         subst (λ (m : ℕ). Keeping p (upto n) old list m kept) (add-one j) (upto-miss p n old (rest (omega arith)) (omega arith) (none j (omega arith) (omega arith)))
-
-module _ (p : ℕ → Bool) (xs : List ℕ) where
-  -- what passes stands, among what is kept, behind what is kept of those before it
-  pub kept-at : (i k : ℕ) → i < length xs → p (getD xs i 0) ≡ true → length (keep p (take i xs)) ≡ k → getD (keep p xs) k 0 ≡ getD xs i 0
-  kept-at i k h t e =
-      ap (λ (l : List ℕ). getD (keep p l) k 0) (split-at xs i 0 h)
-      ∙ ap (λ (l : List ℕ). getD l k 0) (keep-append p (take i xs) (getD xs i 0 ∷ drop (suc i) xs))
-      ∙ ap (λ (l : List ℕ). getD (keep p (take i xs) ++ l) k 0) (keep-hit p (getD xs i 0) (drop (suc i) xs) t)
-      ∙ getD-at (keep p (take i xs)) (getD xs i 0) (keep p (drop (suc i) xs)) 0 k e
-
-  pub kept-more : (i k : ℕ) → i < length xs → p (getD xs i 0) ≡ true → k ≡ length (keep p (take i xs)) → k + 1 ≡ length (keep p (take (i + 1) xs))
-  kept-more i k h t e =
-      omega (arith, ap length (keep-take-hit p xs 0 i h t), length-append (keep p (take i xs)) (getD xs i 0 ∷ []))
-
-  -- past the end of what is kept reads 0
-  pub kept-past : (i k : ℕ) → length xs ≤ i → length (keep p (take i xs)) ≤ k → getD (keep p xs) k 0 ≡ 0
-  kept-past i k h l = List·getD-eq-default (keep p xs) 0 (rw (take-all i xs h) at l)

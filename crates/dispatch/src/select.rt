@@ -3,13 +3,14 @@ use crate::places::each_under;
 use crate::tuple::specialisers;
 use layout::bundle::Bundle;
 ghost use mathlib.Core.Path.{_≡_};
-ghost use Prim.Native.Nat.{_<_};
-ghost use lib.ListN.{length, getD};
+ghost use Prim.Native.Nat.{_<_, _≤_};
+ghost use lib.ListN.{length};
 ghost use Rattle.rules.specs.Model.{modelOf};
-ghost use Rattle.rules.specs.Lookup.{asSpecific, unbeaten, rivals, select};
+ghost use Rattle.rules.specs.Lookup.{asSpecific, unbeaten, select};
 ghost use Rattle.dispatch.specs.Prepared.{Prepared};
 ghost use Rattle.dispatch.specs.Places.{OfArity};
 ghost use Rattle.dispatch.specs.Listed.{Candidates};
+ghost use Rattle.dispatch.specs.Rivals.{rivalsBefore, LastRival};
 ghost use Rattle.dispatch.specs.Found.{foundOf};
 
 // One method; none applicable, number 10; or ambiguous, number 11, with the two rivals to name.
@@ -60,34 +61,29 @@ fn unbeaten(
     true
 }
 
-// The k-th of the methods that no other of the list is at least as specific as; 0 where there are not so many.
-fn rival(
+// The position of the last rival of the list before `end`; there is one.
+fn last_rival(
     bytes: &[u8],
     b: Bundle,
     scratch: &[u8],
     f: usize,
     n: usize,
     list: &[usize],
-    k: usize,
+    end: usize,
 ) -> usize
     requires { ⌜ Prepared (now bytes) b (now scratch) ⌝ }
     requires { ⌜ Candidates (modelOf (now bytes)) f n (now list) ⌝ }
-    ensures { λ r. ⌜ r ≡ getD (rivals (modelOf (now (bytes .entry))) (now (list .entry))) k 0 ⌝ }
+    requires { ⌜ end ≤ length (now list) ⌝ }
+    requires { ⌜ 0 < length (rivalsBefore (modelOf (now bytes)) (now list) end) ⌝ }
+    ensures { λ r. ⌜ LastRival (modelOf (now (bytes .entry))) (now (list .entry)) end r ⌝ }
 {
-    let mut seen = 0;
-    let mut i = 0;
-    while i < list.len() {
-        let m = list[i];
-        i += 1;
-        if !unbeaten(bytes, b, scratch, f, n, list, m) {
-            continue;
+    let mut at = end;
+    loop {
+        at -= 1;
+        if unbeaten(bytes, b, scratch, f, n, list, list[at]) {
+            return at;
         }
-        if seen == k {
-            return m;
-        }
-        seen += 1;
     }
-    0
 }
 
 // The position of a method that is at least as specific as the one held before it: where the search for the leader had best begin. Any position of the
@@ -118,8 +114,8 @@ fn first_candidate(
     held
 }
 
-// The leader of the list (M 5.3), or else its two lowest rivals: the inner loop leaves a candidate at the first method that it is not at least as specific as. The
-// first candidate is tried before the list from its beginning; a list has no two leaders.
+// The leader of the list (M 5.3), or else its last two rivals (M 5.5): the inner loop leaves a candidate at the first method that it is not at least as specific as. The
+// first candidate is tried before the list from its beginning; a list has no two leaders. The second rival is looked for where the search for the first ended.
 pub fn select(bytes: &[u8], b: Bundle, scratch: &[u8], f: usize, n: usize, list: &[usize]) -> Found
     requires { ⌜ Prepared (now bytes) b (now scratch) ⌝ }
     requires { ⌜ Candidates (modelOf (now bytes)) f n (now list) ⌝ }
@@ -147,7 +143,9 @@ pub fn select(bytes: &[u8], b: Bundle, scratch: &[u8], f: usize, n: usize, list:
         }
         return Found::Method(m);
     }
-    let first = rival(bytes, b, scratch, f, n, list, 0);
-    let second = rival(bytes, b, scratch, f, n, list, 1);
-    Found::Ambiguous(first, second)
+    let last = last_rival(bytes, b, scratch, f, n, list, list.len());
+    let newest = list[last];
+    let before = last_rival(bytes, b, scratch, f, n, list, last);
+    let next = list[before];
+    Found::Ambiguous(newest, next)
 }

@@ -74,38 +74,22 @@ fn rank_of(bundle: &[u8], applicable: &[u8; 512], method: usize) -> Rank
     Rank { below, above }
 }
 
-// The two lowest rivals so far, and how many there are, counted to 2.
+// The last two rivals so far.
 struct Rivals {
-    count: usize,
-    first: usize,
-    second: usize,
+    newest: usize,
+    next: usize,
 }
 
 impl Rivals {
     fn new() -> Rivals {
-        Rivals {
-            count: 0,
-            first: 0,
-            second: 0,
-        }
+        Rivals { newest: 0, next: 0 }
     }
 
     fn with(self, method: usize) -> Rivals {
-        if self.count == 0 {
-            return Rivals {
-                count: 1,
-                first: method,
-                second: 0,
-            };
+        Rivals {
+            newest: method,
+            next: self.newest,
         }
-        if self.count == 1 {
-            return Rivals {
-                count: 2,
-                first: self.first,
-                second: method,
-            };
-        }
-        self
     }
 }
 
@@ -137,7 +121,7 @@ fn search(bundle: &[u8], applicable: &[u8; 512], count: usize) -> Outcome {
     Outcome::Rivals(rivals)
 }
 
-// What a send of a function of the bundle with classes of the bundle, 0 at unused places, finds: 0 with the method, 10, or 11 with the two rivals.
+// What a send of a function of the bundle with classes of the bundle, 0 at unused places, finds: 0 with the method, 10, or 11 with the two newest rivals.
 pub(crate) fn lookup(bundle: &[u8], function: usize, args: Places) -> Answer {
     let mut applicable = [0u8; 512];
     let count = mark_applicable(bundle, function, args, &mut applicable);
@@ -146,6 +130,6 @@ pub(crate) fn lookup(bundle: &[u8], function: usize, args: Places) -> Answer {
     }
     match search(bundle, &applicable, count) {
         Outcome::Method(m) => Answer::of(0, m, 0),
-        Outcome::Rivals(rivals) => Answer::of(11, rivals.first, rivals.second),
+        Outcome::Rivals(rivals) => Answer::of(11, rivals.newest, rivals.next),
     }
 }

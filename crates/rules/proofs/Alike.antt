@@ -17,7 +17,8 @@ use Rattle.rules.specs.Coverage.{covers, declaredHold, judgeFound, judge
 use Rattle.rules.specs.Alike.{aboveAlike, treatsAlike, alikeAt, Decides, implies}
 use Rattle.rules.proofs.Lists.{and-left, and-right, every-mem, every-from, keep-mem, keep-agree, keep-keep, matching-append, matching-swap}
 use Rattle.rules.proofs.Subclass.{subclass-trans, under-trans}
-use Rattle.rules.proofs.Lookup.{select-found, lookup-leader}
+use Rattle.rules.proofs.Lookup.{lookup-leader}
+use Rattle.rules.proofs.Selection.{select-found}
 use Rattle.rules.proofs.Coverage.{concrete-present, judge-holds, covered-holds, holds-unbroken}
 
 -- Bools that a test calls equal

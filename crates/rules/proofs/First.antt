@@ -1,12 +1,12 @@
 -- The tuples of a signature are listed in the order of their class numbers, the leftmost place turning slowest, so that the broken tuple that is found is the
 -- first; and there is one first at the most.
 -- Assumes nothing.
-use Prim.Native.Nat.{ℕ}
+use Prim.Native.Nat.{ℕ, _<_}
 use native.Mathlib.Omega.{arith}
 use mathlib.Core.Path.{_≡_, refl, sym, ap, _∙_}
 use mathlib.Core.Bool.{Bool, true, false, false≢true}
 use mathlib.Core.Logic.{_⊎_, inl, inr}
-use mathlib.Core.List.{List, [], _∷_, _++_, map, List·Memᴰ, List·Memᴰ·head, List·Memᴰ·tail, List·Memᴰ·not-nil, List·Memᴰ·cases-cons, List·Memᴰ·append-cases, Memᴰ·of-map}
+use mathlib.Core.List.{List, [], _∷_, map, List·Memᴰ, List·Memᴰ·not-nil, List·Memᴰ·cases-cons, Memᴰ·of-map}
 use mathlib.Core.Option.{Option, none, some}
 use lib.Dec.{ltb}
 use lib.ListN.{length}
@@ -16,7 +16,7 @@ use Rattle.rules.specs.Model.{Model}
 use Rattle.rules.specs.Subclass.{subclass, under}
 use Rattle.rules.specs.Coverage.{covers, judge, failing, concreteUnder, prefixed, tuples, brokenTuple}
 use Rattle.rules.specs.First.{Before, here, later, Tuple, FirstBroken}
-use Rattle.rules.proofs.Lists.{test, first-hit, first-miss, first-mem, first-none, matching-length, Rising, rising-upto, rising-keep}
+use Rattle.rules.proofs.Lists.{test, first-hit, first-miss, first-mem, first-none, matching-length, Ordered, ordered-append, ordered-keep, Rising, rising-upto}
 use Rattle.rules.proofs.Coverage.{prefixed-mem, tuples-mem, tuples-in}
 
 -- no two tuples come before each other
@@ -26,32 +26,18 @@ before-never (here h) (later b) = omega (arith, h)
 before-never (later b) (here k) = omega (arith, k)
 before-never (later b) (later c) = before-never b c
 
--- each element comes before the later ones
-abbrev Ordered : List (List ℕ) → Type 0
-Ordered [] = Unit {0}
-Ordered (t ∷ ts) = ((u : List ℕ) → List·Memᴰ u ts → Before t u) × Ordered ts
-
-ordered-append : (ts us : List (List ℕ)) → Ordered ts → Ordered us → ((t u : List ℕ) → List·Memᴰ t ts → List·Memᴰ u us → Before t u) → Ordered (ts ++ us)
-ordered-append [] us a b h = b
-ordered-append (t ∷ ts) us a b h =
-    (λ u m. one u (List·Memᴰ·append-cases ts m), ordered-append ts us (a .1) b (λ t u m n. h t u (List·Memᴰ·tail m) n))
-  where
-    one : (u : List ℕ) → List·Memᴰ u ts ⊎ List·Memᴰ u us → Before t u
-    one u (inl m) = a .0 u m
-    one u (inr m) = h t u (List·Memᴰ·head refl) m
-
-ordered-map : (k : ℕ) (ts : List (List ℕ)) → Ordered ts → Ordered (map (λ t. k ∷ t) ts)
+ordered-map : (k : ℕ) (ts : List (List ℕ)) → Ordered Before ts → Ordered Before (map (λ t. k ∷ t) ts)
 ordered-map k [] a = tt
 ordered-map k (t ∷ ts) a = (λ u m. one u m, ordered-map k ts (a .1))
   where
     one : (u : List ℕ) → List·Memᴰ u (map (λ t. k ∷ t) ts) → Before (k ∷ t) u
     one u m = let (v, n, e) = Memᴰ·of-map (λ t. k ∷ t) ts m in rw (← e) (later (a .0 v n))
 
-ordered-prefixed : (ks : List ℕ) (ts : List (List ℕ)) → Rising ks → Ordered ts → Ordered (prefixed ks ts)
+ordered-prefixed : (ks : List ℕ) (ts : List (List ℕ)) → Rising ks → Ordered Before ts → Ordered Before (prefixed ks ts)
 unfolding prefixed
 ordered-prefixed [] ts r a = tt
 ordered-prefixed (k ∷ ks) ts r a =
-    ordered-append (map (λ t. k ∷ t) ts) (prefixed ks ts) (ordered-map k ts a) (ordered-prefixed ks ts (r .1) a) across
+    ordered-append Before (map (λ t. k ∷ t) ts) (prefixed ks ts) (ordered-map k ts a) (ordered-prefixed ks ts (r .1) a) across
   where
     across : (t u : List ℕ) → List·Memᴰ t (map (λ t. k ∷ t) ts) → List·Memᴰ u (prefixed ks ts) → Before t u
     across t u m n =
@@ -59,14 +45,14 @@ ordered-prefixed (k ∷ ks) ts r a =
         let (j, w, q, l, _) = prefixed-mem ks ts n in
         rw (← e, q) (here (r .0 j l))
 
-tuples-ordered : (M : Model) (cs : List ℕ) → Ordered (tuples M cs)
+tuples-ordered : (M : Model) (cs : List ℕ) → Ordered Before (tuples M cs)
 unfolding tuples concreteUnder
 tuples-ordered M [] = (λ u m. absurd (List·Memᴰ·not-nil m), tt)
 tuples-ordered M (c ∷ cs) =
-    ordered-prefixed (concreteUnder M c) (tuples M cs) (rising-keep _ (upto (M .classes)) (rising-upto (M .classes))) (tuples-ordered M cs)
+    ordered-prefixed (concreteUnder M c) (tuples M cs) (ordered-keep _<_ _ (upto (M .classes)) (rising-upto (M .classes))) (tuples-ordered M cs)
 
 -- what passes a test first in an ordered list has nothing before it that passes
-first-before : (p : List ℕ → Bool) (ts : List (List ℕ)) → Ordered ts → {t : List ℕ} → first p ts ≡ some t → (u : List ℕ) → List·Memᴰ u ts → Before u t → p u ≡ false
+first-before : (p : List ℕ → Bool) (ts : List (List ℕ)) → Ordered Before ts → {t : List ℕ} → first p ts ≡ some t → (u : List ℕ) → List·Memᴰ u ts → Before u t → p u ≡ false
 first-before p [] a e u m b = absurd (List·Memᴰ·not-nil m)
 first-before p (x ∷ ts) a {t} e u m b = go (test (p x)) (List·Memᴰ·cases-cons m) (λ q. first-before p ts (a .1) q u)
   where

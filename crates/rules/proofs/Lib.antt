@@ -5,13 +5,15 @@ pub mod Opening
 pub mod Places
 pub mod Wellformed
 pub mod Subclass
-pub mod Lookup
 pub mod Selection
+pub mod Lookup
 pub mod Coverage
 pub mod First
 pub mod Alike
 pub mod Types
 pub mod Machine
+pub mod Calls
+pub mod Named
 pub mod Sound
 pub mod Overwrite
 pub mod Tuples

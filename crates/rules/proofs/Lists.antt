@@ -4,10 +4,10 @@ use Prim.Native.Nat.{ℕ, zero, suc, _+_, _<_, _≤_}
 use native.Mathlib.Nat.{not-suc-le-zero, le-of-suc-le-suc, eq-or-lt-of-le}
 use native.Mathlib.Numerals.{add-one}
 use native.Mathlib.Omega.{arith}
-use mathlib.Core.Path.{_≡_, refl, sym, ap, ap₂, _∙_}
+use mathlib.Core.Path.{_≡_, refl, sym, ap, ap₂, subst, _∙_}
 use mathlib.Core.Bool.{Bool, true, false, _&&_, _||_, false≢true, and-true, and-assoc}
 use mathlib.Core.Logic.{_⊎_, inl, inr}
-use mathlib.Core.List.{List, [], _∷_, _++_, append-nil, reverse, reverseAux, List·Memᴰ, List·Memᴰ·head, List·Memᴰ·tail, Memᴰ·append-left, Memᴰ·append-right, List·Memᴰ·append-cases, List·Memᴰ·cases-cons, List·Memᴰ·not-nil, List·Memᴰ·eq-of-singleton}
+use mathlib.Core.List.{List, [], _∷_, _++_, append-nil, reverse, reverseAux, reverse-cons, reverse-reverse, List·Memᴰ, List·Memᴰ·head, List·Memᴰ·tail, Memᴰ·append-left, Memᴰ·append-right, List·Memᴰ·append-cases, List·Memᴰ·cases-cons, List·Memᴰ·not-nil, List·Memᴰ·eq-of-singleton}
 use mathlib.Core.Option.{Option, none, some}
 use lib.ListN.{length, getD, take, drop, length-append, List·getD-append}
 use lib.Seq.{getD-at, take-suc}
@@ -70,6 +70,10 @@ module _ {A : Type 0} where
   getD-mem [] i d h = absurd (not-suc-le-zero h)
   getD-mem (x ∷ xs) zero d h = List·Memᴰ·head refl
   getD-mem (x ∷ xs) (suc i) d h = List·Memᴰ·tail (getD-mem xs i d (le-of-suc-le-suc h))
+
+  pub mem-length : (xs : List A) {x : A} → List·Memᴰ x xs → 0 < length xs
+  mem-length [] m = absurd (List·Memᴰ·not-nil m)
+  mem-length (y ∷ ys) m = omega arith
 
   pub any-mem : (p : A → Bool) (xs : List A) → any p xs ≡ true → (x : A) × List·Memᴰ x xs × (p x ≡ true)
   unfolding any
@@ -297,32 +301,68 @@ getD-upto (suc n) k d h = go (eq-or-lt-of-le (le-of-suc-le-suc h)) (λ r. getD-u
     go (inl q) rest = rw q (getD-at (upto n) n [] d n (length-upto n))
     go (inr r) rest = List·getD-append (upto n) (n ∷ []) d k (rw (length-upto n) r) ∙ rest r
 
--- each element is below the later ones
-abbrev pub Rising : List ℕ → Type 0
-Rising [] = Unit {0}
-Rising (x ∷ xs) = ((y : ℕ) → List·Memᴰ y xs → x < y) × Rising xs
+-- an element of a list is one of the list turned round, and back
+module _ {A : Type 0} where
+  pub mem-reverse : (xs : List A) {x : A} → List·Memᴰ x (reverse xs) → List·Memᴰ x xs
+  mem-reverse [] m = m
+  mem-reverse (y ∷ ys) {x} m =
+      go (List·Memᴰ·append-cases (reverse ys) (subst (λ (l : List A). List·Memᴰ x l) (reverse-cons y ys) m)) (λ k. mem-reverse ys k)
+    where
+      go : List·Memᴰ x (reverse ys) ⊎ List·Memᴰ x (y ∷ []) → (List·Memᴰ x (reverse ys) → List·Memᴰ x ys) → List·Memᴰ x (y ∷ ys)
+      go (inl k) rest = List·Memᴰ·tail (rest k)
+      go (inr k) rest = List·Memᴰ·head (List·Memᴰ·eq-of-singleton k)
 
-rising-snoc : (xs : List ℕ) (n : ℕ) → Rising xs → ((y : ℕ) → List·Memᴰ y xs → y < n) → Rising (xs ++ (n ∷ []))
-rising-snoc [] n r h = (λ y m. absurd (List·Memᴰ·not-nil m), tt)
-rising-snoc (x ∷ xs) n r h = (λ y m. go y (List·Memᴰ·append-cases xs m), rising-snoc xs n (r .1) (λ y m. h y (List·Memᴰ·tail m)))
-  where
-    go : (y : ℕ) → List·Memᴰ y xs ⊎ List·Memᴰ y (n ∷ []) → x < y
-    go y (inl m) = r .0 y m
-    go y (inr m) = rw (List·Memᴰ·eq-of-singleton m) (h x (List·Memᴰ·head refl))
+  pub reverse-mem : (xs : List A) {x : A} → List·Memᴰ x xs → List·Memᴰ x (reverse xs)
+  reverse-mem xs {x} m = mem-reverse (reverse xs) (subst (λ (l : List A). List·Memᴰ x l) (sym (reverse-reverse xs)) m)
+
+-- each element stands in the relation to the later ones
+module _ {A : Type 0} where
+  abbrev pub Ordered : (A → A → Type 0) → List A → Type 0
+  Ordered R [] = Unit {0}
+  Ordered R (x ∷ xs) = ((y : A) → List·Memᴰ y xs → R x y) × Ordered R xs
+
+  module _ (R : A → A → Type 0) where
+    pub ordered-append : (xs ys : List A) → Ordered R xs → Ordered R ys → ((x y : A) → List·Memᴰ x xs → List·Memᴰ y ys → R x y) → Ordered R (xs ++ ys)
+    ordered-append [] ys a b h = b
+    ordered-append (x ∷ xs) ys a b h =
+        (λ y m. one y (List·Memᴰ·append-cases xs m), ordered-append xs ys (a .1) b (λ x y m n. h x y (List·Memᴰ·tail m) n))
+      where
+        one : (y : A) → List·Memᴰ y xs ⊎ List·Memᴰ y ys → R x y
+        one y (inl m) = a .0 y m
+        one y (inr m) = h x y (List·Memᴰ·head refl) m
+
+    -- one more at the end
+    ordered-snoc : (xs : List A) (x : A) → Ordered R xs → ((y : A) → List·Memᴰ y xs → R y x) → Ordered R (xs ++ (x ∷ []))
+    ordered-snoc xs x a h =
+        ordered-append xs (x ∷ []) a (λ y m. absurd (List·Memᴰ·not-nil m), tt)
+        (λ y z m n. subst (λ (k : A). R y k) (sym (List·Memᴰ·eq-of-singleton n)) (h y m))
+
+    pub ordered-keep : (p : A → Bool) (xs : List A) → Ordered R xs → Ordered R (keep p xs)
+    unfolding keep
+    ordered-keep p [] a = tt
+    ordered-keep p (x ∷ xs) a = go (test (p x)) (ordered-keep p xs (a .1))
+      where
+        go : (p x ≡ true) ⊎ (p x ≡ false) → Ordered R (keep p xs) → Ordered R (keep p (x ∷ xs))
+        go (inl e) rest = rw (keep-hit p x xs e) (λ y m. a .0 y (keep-mem p xs m .0), rest)
+        go (inr e) rest = rw (keep-miss p x xs e) rest
+
+  pub ordered-reverse : (R : A → A → Type 0) (xs : List A) → Ordered R xs → Ordered (λ x y. R y x) (reverse xs)
+  ordered-reverse R [] a = tt
+  ordered-reverse R (x ∷ xs) a =
+      subst (λ (l : List A). Ordered (λ x y. R y x) l) (sym (reverse-cons x xs))
+      (ordered-snoc (λ x y. R y x) (reverse xs) x (ordered-reverse R xs (a .1)) (λ y m. a .0 y (mem-reverse xs m)))
+
+-- each element is below the later ones; or above them
+abbrev pub Rising : List ℕ → Type 0
+Rising xs = Ordered _<_ xs
+
+abbrev pub Falling : List ℕ → Type 0
+Falling xs = Ordered (λ x y. y < x) xs
 
 pub rising-upto : (n : ℕ) → Rising (upto n)
 unfolding upto
 rising-upto zero = tt
-rising-upto (suc n) = rising-snoc (upto n) n (rising-upto n) (λ y m. upto-below n m)
-
-pub rising-keep : (p : ℕ → Bool) (xs : List ℕ) → Rising xs → Rising (keep p xs)
-unfolding keep
-rising-keep p [] r = tt
-rising-keep p (x ∷ xs) r = go (test (p x)) (rising-keep p xs (r .1))
-  where
-    go : (p x ≡ true) ⊎ (p x ≡ false) → Rising (keep p xs) → Rising (keep p (x ∷ xs))
-    go (inl e) rest = rw (keep-hit p x xs e) (λ y m. r .0 y (keep-mem p xs m .0), rest)
-    go (inr e) rest = rw (keep-miss p x xs e) rest
+rising-upto (suc n) = ordered-snoc _<_ (upto n) n (rising-upto n) (λ y m. upto-below n m)
 
 -- The lowest number below n at which a test passes: there is none, or it passes there and at no lower one.
 pub lowest-none : (p : ℕ → Bool) (n : ℕ) → first p (upto n) ≡ none → (k : ℕ) → k < n → p k ≡ false

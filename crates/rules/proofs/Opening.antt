@@ -1,16 +1,16 @@
--- What opening says of a bundle: it gives the counts exactly when every rule holds, and where the sections lie.
+-- What opening says of a bundle: it gives the counts exactly when every rule holds, and where the sections lie; it refuses by 9 at the most.
 -- Assumes nothing.
 use Prim.Native.Nat.{ℕ, suc, _+_, _≤_, _<_}
 use native.Mathlib.Omega.{arith}
-use mathlib.Core.Path.{_≡_, refl, ap}
-use mathlib.Core.Bool.{Bool, true, false, not, false≢true}
+use mathlib.Core.Path.{_≡_, refl, ap, subst}
+use mathlib.Core.Bool.{Bool, true, false, not, _&&_, false≢true}
 use mathlib.Core.List.{List, [], _∷_}
 use mathlib.Core.Option.{Option, none, some}
 use lib.Dec.{eqb}
 use lib.ListN.{length}
 use borrow.Author.Tests.{leb-true, eqb-true, not-false}
 use Rattle.rules.specs.Bounded.{upto}
-use Rattle.rules.specs.Layout.{Answer, gives, require, requireEach, lowest, offset, extent, sectionEnd, sizeRule, chainRule, wholeRule, limitRule, classRule, functionRule, signatureRule, methodRule, twinRule, codeRule, classCount, functionCount, signatureCount, methodCount, opening}
+use Rattle.rules.specs.Layout.{Answer, gives, refuses, require, requireEach, lowest, offset, extent, sectionEnd, sizeRule, chainRule, wholeRule, limitRule, classRule, functionRule, signatureRule, methodRule, twinRule, codeRule, classCount, functionCount, signatureCount, methodCount, opening}
 use Rattle.rules.proofs.Lists.{and-left, and-right, lowest-none, none-lowest, every-mem, below-upto}
 
 -- every rule of numbers 1 to 9 holds
@@ -27,7 +27,7 @@ pub record Rules (b : List ℕ) : Type 0 where
   pub ofCode : (m : ℕ) → m < methodCount b → codeRule b m ≡ true
 
 module _ {A : Type 0} where
-  require-passed : (t : Bool) (number : ℕ) (rest : Answer A) {x : A} → require t number rest ≡ gives x → (t ≡ true) × (rest ≡ gives x)
+  pub require-passed : (t : Bool) (number : ℕ) (rest : Answer A) {x : A} → require t number rest ≡ gives x → (t ≡ true) × (rest ≡ gives x)
   unfolding require
   require-passed true number rest e = (refl, e)
   require-passed false number rest e = absurd (false≢true (cc))
@@ -85,6 +85,37 @@ rules-open b r =
       none-broken (twinRule b) (methodCount b) (r .ofTwin),
       none-broken (codeRule b) (methodCount b) (r .ofCode),
     )
+
+-- a refusal has a number of 9 at the most
+abbrev Early : Answer (List ℕ) → Type 0
+Early (gives counts) = Unit {0}
+Early (refuses number vs) = number ≤ 9
+
+require-early : (t : Bool) (number : ℕ) (rest : Answer (List ℕ)) → number ≤ 9 → Early rest → Early (require t number rest)
+unfolding require
+require-early true number rest h k = k
+require-early false number rest h k = h
+
+each-early : (r : Option ℕ) (number : ℕ) (rest : Answer (List ℕ)) → number ≤ 9 → Early rest → Early (requireEach r number rest)
+unfolding requireEach
+each-early none number rest h k = k
+each-early (some n) number rest h k = h
+
+opening-early : (b : List ℕ) → Early (opening b)
+unfolding opening
+opening-early b =
+    require-early (sizeRule b) 1 _ (omega arith)
+    (require-early (chainRule b && wholeRule b) 2 _ (omega arith)
+    (require-early (limitRule b) 3 _ (omega arith)
+    (each-early (lowest (classRule b) (classCount b)) 4 _ (omega arith)
+    (each-early (lowest (functionRule b) (functionCount b)) 5 _ (omega arith)
+    (each-early (lowest (signatureRule b) (signatureCount b)) 6 _ (omega arith)
+    (each-early (lowest (methodRule b) (methodCount b)) 7 _ (omega arith)
+    (each-early (lowest (twinRule b) (methodCount b)) 8 _ (omega arith)
+    (each-early (lowest (codeRule b) (methodCount b)) 9 _ (omega arith) tt))))))))
+
+pub opening-number : (b : List ℕ) (number : ℕ) (vs : List ℕ) → opening b ≡ refuses number vs → number ≤ 9
+opening-number b number vs e = subst Early e (opening-early b)
 
 -- where the six sections lie
 pub record Sections (b : List ℕ) : Type 0 where

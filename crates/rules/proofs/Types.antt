@@ -1,16 +1,19 @@
--- Static types: the type of a send holds what the result class of some licensing signature is under, and is the greatest lower bound of those results.
+-- Static types: the type of a send holds what the result class of some licensing signature is under, and is the greatest lower bound of those results. A body
+-- breaks by 14 or more.
 -- Assumes nothing.
-use Prim.Native.Nat.{ℕ, _<_}
-use mathlib.Core.Path.{_≡_, refl}
-use mathlib.Core.Bool.{Bool, true, false, _&&_, _||_}
+use Prim.Native.Nat.{ℕ, suc, _<_, _≤_}
+use native.Mathlib.Omega.{arith}
+use mathlib.Core.Path.{_≡_, refl, subst}
+use mathlib.Core.Bool.{Bool, true, false, cond, _&&_, _||_}
 use mathlib.Core.Logic.{_↔_}
 use mathlib.Core.List.{List, [], _∷_, List·Memᴰ, List·Memᴰ·head, Memᴰ·map, Memᴰ·of-map}
-use lib.Dec.{eqb}
+use lib.Dec.{eqb, leb}
+use lib.ListN.{length}
 use borrow.Author.Tests.{eqb-true, eq-eqb}
 use Rattle.rules.specs.Bounded.{upto, any}
-use Rattle.rules.specs.Model.{Model}
+use Rattle.rules.specs.Model.{Model, Instr, arg, new, send}
 use Rattle.rules.specs.Subclass.{subclass}
-use Rattle.rules.specs.Types.{Static, inType, licenses, licensing, sendType}
+use Rattle.rules.specs.Types.{Static, inType, licenses, licensing, sendType, Typing, typed, breaks, Effect, leaves, breaksBy, sendEffect, effect, ending, afterEffect, typeFrom, typeBody}
 use Rattle.rules.proofs.Lists.{and-left, and-right, and-both, any-mem, any-from, keep-mem, keep-in, upto-below, below-upto}
 
 -- signature s licenses a send of f with arguments of these types
@@ -84,3 +87,52 @@ send-type-greatest M f types t h =
           let (s, l, u) = send-type-union M f types b .0 e in
           h s l .has b (any-from (λ g. subclass M g b) (M .sigResult s ∷ []) (List·Memᴰ·head refl) u);
     }
+
+-- The numbers by which a body breaks.
+abbrev Bodily : Typing → Type 0
+Bodily typed = Unit {0}
+Bodily (breaks number at) = 14 ≤ number
+
+abbrev BodilyEffect : Effect → Type 0
+BodilyEffect (leaves stack) = Unit {0}
+BodilyEffect (breaksBy number) = 14 ≤ number
+
+module _ (M : Model) where
+  send-bodily : (t : Static) (below : List Static) → BodilyEffect (sendEffect t below)
+  unfolding sendEffect
+  send-bodily [] below = omega arith
+  send-bodily (c ∷ cs) below = tt
+
+  cond-bodily : (t : Bool) (p q : Effect) → BodilyEffect p → BodilyEffect q → BodilyEffect (cond t p q)
+  cond-bodily true p q h k = h
+  cond-bodily false p q h k = k
+
+  effect-bodily : (m : ℕ) (stack : List Static) (i : Instr) → BodilyEffect (effect M m stack i)
+  unfolding effect
+  effect-bodily m stack (arg k) = tt
+  effect-bodily m stack (new c) = cond-bodily (M .concrete c) _ _ tt (omega arith)
+  effect-bodily m stack (send f) = cond-bodily (leb (M .arity f) (length stack)) _ _ (send-bodily _ _) (omega arith)
+
+  ending-bodily : (m at : ℕ) (stack : List Static) → Bodily (ending M m at stack)
+  unfolding ending
+  ending-bodily m at [] = omega arith
+  ending-bodily m at (t ∷ []) = go (inType M t (M .result m))
+    where
+      go : (t : Bool) → Bodily (cond t typed (breaks 17 at))
+      go true = tt
+      go false = omega arith
+  ending-bodily m at (t ∷ u ∷ rest) = omega arith
+
+  from-bodily : (m at : ℕ) (stack : List Static) (rest : List Instr) → Bodily (typeFrom M m at stack rest)
+  unfolding typeFrom afterEffect
+  from-bodily m at stack [] = ending-bodily m at stack
+  from-bodily m at stack (i ∷ rest) = go (effect M m stack i) (effect-bodily m stack i) (λ next. from-bodily m (suc at) next rest)
+    where
+      go : (e : Effect) → BodilyEffect e → ((next : List Static) → Bodily (typeFrom M m (suc at) next rest))
+          → Bodily (afterEffect e at (λ next. typeFrom M m (suc at) next rest))
+      go (leaves next) h later = later next
+      go (breaksBy number) h later = h
+
+  pub body-number : (m number at : ℕ) → typeBody M m ≡ breaks number at → 14 ≤ number
+  unfolding typeBody
+  body-number m number at e = subst Bodily e (from-bodily m 0 [] (M .body m))

@@ -14,7 +14,7 @@ use Rattle.rules.specs.Machine.{Ending, value, spent, deep, stopped}
 use Rattle.rules.specs.Calls.{scratchBytes, rowBytes, openingCall, ancestryCall, lookupCall, sendTypeCall, checkCall, witnessCall, bodyViewCall, bodyViewStart, runCall, bit, rowAfter}
 use Rattle.rules.specs.Ascii.{ascii}
 use Rattle.rules.specs.Chart.{chartCall, bufferAfter}
-use Rattle.rules.specs.Samples.{chart3, chart4, chart5, loop, oneClass, abstractArgument, narrowDeclared, wideResult, twoValues, abstractNew, noLicence, looseResult, twentyThreeBytes, directoryGap, emptySections, ownParent, fourArguments, absentResult, emptyBody, twinMethods, unknownOperation, noMethod, threeFaults, severalBroken}
+use Rattle.rules.specs.Samples.{chart3, chart4, chart5, loop, oneClass, abstractArgument, narrowDeclared, wideResult, twoValues, abstractNew, noLicence, looseResult, twentyThreeBytes, directoryGap, emptySections, ownParent, fourArguments, absentResult, emptyBody, twinMethods, unknownOperation, noMethod, threeFaults, threeRivals, severalBroken}
 
 -- A call on a bundle, with what it comes to. Scratch, row and buffer are large enough, but for `checksIn`, `typesIn` and `chartsIn`, which give their length.
 pub data Case : Type 0 where
@@ -61,7 +61,7 @@ marked =
     finds chart3 0 (1 ∷ 3 ∷ 0 ∷ []) (gives 2)
     ∷ finds chart3 0 (1 ∷ 4 ∷ 0 ∷ []) (gives 0)
     ∷ finds chart3 0 (2 ∷ 3 ∷ 0 ∷ []) (gives 1)
-    ∷ finds chart3 0 (2 ∷ 4 ∷ 0 ∷ []) (refuses 11 (0 ∷ 2 ∷ 4 ∷ 0 ∷ 0 ∷ 1 ∷ []))
+    ∷ finds chart3 0 (2 ∷ 4 ∷ 0 ∷ []) (refuses 11 (0 ∷ 2 ∷ 4 ∷ 0 ∷ 1 ∷ 0 ∷ []))
     ∷ finds chart4 0 (2 ∷ 4 ∷ 0 ∷ []) (gives 3)
     ∷ checks chart4 (gives tt)
     ∷ runs chart4 0 (2 ∷ 4 ∷ 0 ∷ []) 1 (value 7) 1
@@ -75,13 +75,13 @@ marked =
 abbrev pub worked : List Case
 worked =
     opens chart3 (gives (8 ∷ 1 ∷ 1 ∷ 3 ∷ []))
-    ∷ checks chart3 (refuses 11 (0 ∷ 0 ∷ 2 ∷ 4 ∷ 0 ∷ 0 ∷ 1 ∷ []))
+    ∷ checks chart3 (refuses 11 (0 ∷ 0 ∷ 2 ∷ 4 ∷ 0 ∷ 1 ∷ 0 ∷ []))
     ∷ views chart3 0 (1 ∷ 6 ∷ []) 121
     ∷ views chart3 2 (1 ∷ 6 ∷ []) 125
     ∷ asks chart3 2 1 true
     ∷ asks chart3 1 2 false
     ∷ witnesses chart4 0 (2 ∷ 4 ∷ 0 ∷ []) (gives tt)
-    ∷ witnesses chart3 0 (2 ∷ 4 ∷ 0 ∷ []) (refuses 11 (0 ∷ 0 ∷ 2 ∷ 4 ∷ 0 ∷ 0 ∷ 1 ∷ []))
+    ∷ witnesses chart3 0 (2 ∷ 4 ∷ 0 ∷ []) (refuses 11 (0 ∷ 0 ∷ 2 ∷ 4 ∷ 0 ∷ 1 ∷ 0 ∷ []))
     ∷ checks oneClass (gives tt)
     ∷ checks abstractArgument (gives tt)
     ∷ opens twentyThreeBytes (refuses 1 [])
@@ -96,6 +96,9 @@ worked =
     ∷ checks noMethod (refuses 10 (0 ∷ 0 ∷ 0 ∷ 0 ∷ 0 ∷ []))
     ∷ checks threeFaults (refuses 10 (0 ∷ 0 ∷ 0 ∷ 0 ∷ 0 ∷ []))
     ∷ finds noMethod 0 (0 ∷ 0 ∷ 0 ∷ []) (refuses 10 (0 ∷ 0 ∷ 0 ∷ 0 ∷ []))
+    ∷ checks threeRivals (refuses 11 (0 ∷ 0 ∷ 5 ∷ 0 ∷ 0 ∷ 3 ∷ 1 ∷ []))
+    ∷ finds threeRivals 0 (5 ∷ 0 ∷ 0 ∷ []) (refuses 11 (0 ∷ 5 ∷ 0 ∷ 0 ∷ 3 ∷ 1 ∷ []))
+    ∷ witnesses threeRivals 0 (5 ∷ 0 ∷ 0 ∷ []) (refuses 11 (0 ∷ 0 ∷ 5 ∷ 0 ∷ 0 ∷ 3 ∷ 1 ∷ []))
     ∷ checks narrowDeclared (refuses 12 (0 ∷ 0 ∷ 0 ∷ 0 ∷ 0 ∷ 0 ∷ []))
     ∷ checks severalBroken (refuses 12 (0 ∷ 0 ∷ 1 ∷ 3 ∷ 0 ∷ 3 ∷ []))
     ∷ checks wideResult (refuses 13 (0 ∷ 0 ∷ 0 ∷ 0 ∷ 0 ∷ 0 ∷ []))
@@ -103,6 +106,7 @@ worked =
     ∷ checks abstractNew (refuses 15 (0 ∷ 0 ∷ []))
     ∷ checks noLicence (refuses 16 (0 ∷ 1 ∷ []))
     ∷ checks looseResult (refuses 17 (0 ∷ 1 ∷ []))
+    ∷ runs threeRivals 0 (5 ∷ 0 ∷ 0 ∷ []) 9 (stopped 11 (0 ∷ 5 ∷ 0 ∷ 0 ∷ 3 ∷ 1 ∷ [])) 0
     ∷ runs narrowDeclared 0 (0 ∷ 0 ∷ 0 ∷ []) 9 (stopped 12 (0 ∷ 0 ∷ 0 ∷ 0 ∷ 0 ∷ [])) 0
     ∷ runs twoValues 0 (0 ∷ 0 ∷ 0 ∷ []) 9 (stopped 14 (0 ∷ 2 ∷ [])) 2
     ∷ runs abstractNew 0 (0 ∷ 0 ∷ 0 ∷ []) 9 (stopped 15 (0 ∷ 0 ∷ [])) 0

@@ -2,7 +2,7 @@
 -- Assumes nothing.
 use Prim.Native.Nat.{ℕ}
 use mathlib.Core.Bool.{Bool, not, _&&_, _||_}
-use mathlib.Core.List.{List, [], _∷_}
+use mathlib.Core.List.{List, [], _∷_, reverse}
 use mathlib.Core.Option.{Option, none, some}
 use lib.Dec.{eqb}
 use lib.ListN.{length, getD, take}
@@ -44,11 +44,11 @@ leads M ms m = every (λ n. eqb n m || asSpecific M m n) ms
 unfoldable pub unbeaten : Model → List ℕ → ℕ → Bool
 unbeaten M ms m = every (λ n. eqb n m || not (asSpecific M n m)) ms
 
--- the rivals of a list: those which none of the rest equals or beats (M 5.5)
+-- the rivals of a list, from its end: those which none of the rest equals or beats (M 5.5)
 unfoldable pub rivals : Model → List ℕ → List ℕ
-rivals M ms = keep (unbeaten M ms) ms
+rivals M ms = keep (unbeaten M ms) (reverse ms)
 
--- the leader, or else the two lowest rivals in their order
+-- The leader, or else the first two of the rivals. Of a list that rises these are the highest, the higher one first.
 unfoldable pub leaderOr : Option ℕ → List ℕ → Found
 leaderOr (some m) rs = found m
 leaderOr none rs = ambiguous (getD rs 0 0) (getD rs 1 0)

@@ -118,13 +118,19 @@ pub fn many_methods(broken: bool) -> Vec<u8> {
     parts.bytes()
 }
 
-/// The same signature, so many times, over a chain of 128 classes, and 382 methods, of which most apply to most tuples.
-pub fn chain(times: usize) -> Vec<u8> {
+/// 128 concrete classes, each but class 0 under the one before.
+fn chained() -> Parts {
     let mut parts = Parts::default();
     parts.class(true, &[]);
     for number in 1..128 {
         parts.class(true, &[number - 1]);
     }
+    parts
+}
+
+/// The same signature, so many times, over a chain of 128 classes, and 382 methods, of which most apply to most tuples.
+pub fn chain(times: usize) -> Vec<u8> {
+    let mut parts = chained();
     let function = parts.function(3);
     for _ in 0..times {
         parts.signature(function, [0; 3], 0);
@@ -134,6 +140,22 @@ pub fn chain(times: usize) -> Vec<u8> {
     parts.method(function, specialisers, 0, &[[NEW, 0]]);
     for number in 0..381 {
         specialisers[number % 3] += 1;
+        parts.method(function, specialisers, 0, &[[NEW, 0]]);
+    }
+    parts.bytes()
+}
+
+/// 512 methods that all apply to the last tuple of a chain of 128 classes. Two in the middle of the list are rivals. Each of the
+/// others is beaten by these two alone, so that a search for rivals, or for what beats a method, passes half of the list from
+/// either end.
+pub fn rivals_in_the_middle() -> Vec<u8> {
+    let mut parts = chained();
+    let function = parts.function(3);
+    // Of two triples with the same sum neither is at least as specific as the other.
+    let mut specialisers: Vec<[u8; 3]> =
+        (0..32).flat_map(|a| (0..32 - a).map(move |b| [a, b, 31 - a - b])).take(510).collect();
+    specialisers.splice(255..255, [[127, 126, 126], [126, 127, 126]]);
+    for specialisers in specialisers {
         parts.method(function, specialisers, 0, &[[NEW, 0]]);
     }
     parts.bytes()

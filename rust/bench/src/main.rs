@@ -36,7 +36,8 @@ fn cases() -> Vec<Case> {
     vec![
         open_case("open the largest bundle, 65,535 bytes", bundles::largest()),
         ancestry_case("ancestry: 128 classes of three parents", bundles::classes()),
-        lookup_case("lookup among 512 methods", bundles::many_methods(false)),
+        lookup_case("lookup among 512 methods", bundles::many_methods(false), next, 0),
+        lookup_case("lookup among 512 methods that all apply, ambiguous", bundles::rivals_in_the_middle(), last, 11),
         repeated(LINES, chart_case("chart of 128 classes, 512 methods: all 129 lines", bundles::chart())),
         repeated(LINES, ancestry_case("ancestry on the bundle of that chart, 129 times", bundles::chart())),
         check_case("check 2,097,152 tuples, 5 methods, accepted", bundles::few_methods(false), 0),
@@ -80,8 +81,8 @@ fn ancestry_case(name: &'static str, bundle: Vec<u8>) -> Case {
     }
 }
 
-/// One call is one lookup; the tuple changes from call to call.
-fn lookup_case(name: &'static str, bundle: Vec<u8>) -> Case {
+/// One call is one lookup; each takes the tuple that follows the one before.
+fn lookup_case(name: &'static str, bundle: Vec<u8>, next: fn([u64; 3]) -> [u64; 3], number: u8) -> Case {
     let [a, b] = [bundle.clone(), bundle];
     let (mut scratch_1, mut scratch_2) = ([0; plain::SCRATCH], [0; plain::SCRATCH]);
     let (mut tuple_1, mut tuple_2) = ([0; 3], [0; 3]);
@@ -96,12 +97,18 @@ fn lookup_case(name: &'static str, bundle: Vec<u8>) -> Case {
             by_plain(plain::lookup(black_box(&b), &mut scratch_2, 0, tuple_2))
         })),
         fast: None,
-        expected: (0, None),
+        expected: (number, None),
     }
 }
 
+/// A tuple that is another from call to call.
 fn next([a, b, c]: [u64; 3]) -> [u64; 3] {
     [(a + 1) % 128, (b + 1 + a / 127) % 128, (c + 3) % 128]
+}
+
+/// The last tuple, over and over.
+fn last(_: [u64; 3]) -> [u64; 3] {
+    [127; 3]
 }
 
 /// How many lines the chart of 128 concrete classes has.

@@ -2,7 +2,7 @@
 
 use crate::{Parts, NEW, SEND};
 
-/// Refused by 11: two methods apply to (2, 4) and neither leads.
+/// Refused by 11: three methods apply to (2, 4) and none leads.
 pub fn chart_3() -> Parts {
     let mut parts = Parts::default();
     parts.class(false, &[]); // 0 Any
@@ -42,6 +42,24 @@ pub fn looping() -> Parts {
     let again = parts.function(0);
     parts.signature(again, [0; 3], 0);
     parts.method(again, [0; 3], 0, &[[SEND, again]]);
+    parts
+}
+
+/// Refused by 11: five methods apply to class 5. Methods 0, 1 and 3 are rivals; method 2, between them, and method 4, above
+/// them, are beaten.
+pub fn three_rivals() -> Parts {
+    let mut parts = Parts::default();
+    parts.class(false, &[]);
+    parts.class(false, &[0]);
+    for _ in 2..5 {
+        parts.class(false, &[1]);
+    }
+    parts.class(true, &[2, 3, 4]);
+    let function = parts.function(1);
+    parts.signature(function, [0; 3], 0);
+    for specialiser in [2, 3, 1, 4, 0] {
+        parts.method(function, [specialiser, 0, 0], 0, &[[NEW, 5]]);
+    }
     parts
 }
 

@@ -3,7 +3,7 @@
 mod charts;
 mod random;
 
-pub use charts::{chart_3, chart_4, chart_5, looping, tree, widest_chart};
+pub use charts::{chart_3, chart_4, chart_5, looping, three_rivals, tree, widest_chart};
 pub use random::Random;
 
 /// Operation of an instruction.

@@ -1,5 +1,6 @@
 //! Calls, made on both implementations with the same bytes in every buffer.
 
+use crate::rivals::beaten_and_rivals;
 use crate::tally::Tally;
 use builder::{hex, Parts, Random};
 use curiumtoad::{raw, Answer};
@@ -48,6 +49,15 @@ impl Call {
         match *self {
             Call::Listing(length) | Call::Chart(_, _, length) => length,
             _ => 0,
+        }
+    }
+
+    /// The function and the classes that the values of number 11 name.
+    fn sent(&self, v: [u64; 8]) -> [u64; 4] {
+        match self {
+            Call::Lookup(..) | Call::Run(..) => [v[0], v[1], v[2], v[3]],
+            // The signature comes first.
+            _ => [v[1], v[2], v[3], v[4]],
         }
     }
 
@@ -211,6 +221,10 @@ impl Comparer {
         self.tally.count(call.name(), expected.number);
         if expected.number == 0 && matches!(call, Call::Run(..) | Call::RunAccepted(..)) {
             self.tally.count_run(expected.values);
+        }
+        if expected.number == 11 {
+            let (beaten, rivals) = beaten_and_rivals(bundle, buffers[0].part(), call.sent(expected.values));
+            self.tally.count_rivals(&beaten, &rivals);
         }
 
         let mut different = Vec::new();

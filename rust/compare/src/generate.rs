@@ -22,9 +22,10 @@ pub fn parts(random: &mut Random, number: usize) -> Parts {
         let mut parts = drawn(random, crowded);
         let repairs = random.of(&[0, 0, 1, 3, 200, 200, 200, 200]);
         if within(&parts, work) && repair(&mut parts, random, repairs, work) {
-            match random.below(3) {
-                0 if repairs == 200 => spoil(&mut parts, random),
-                1 if repairs == 200 => alike::mislead(&mut parts, random),
+            match random.below(7) {
+                0..=1 if repairs == 200 => spoil(&mut parts, random),
+                2..=3 if repairs == 200 => alike::mislead(&mut parts, random),
+                4 => draw_rivals(&mut parts, random),
                 _ => {}
             }
             if within(&parts, work) {
@@ -191,6 +192,26 @@ fn draw_method(parts: &mut Parts, random: &mut Random) {
     }
     let body = body(parts, random, function, result);
     add_method(parts, Method { function, specialisers, declared, result, body });
+}
+
+/// Adds methods that all apply to one tuple, which most often a signature covers: rivals and beaten ones, in any order.
+fn draw_rivals(parts: &mut Parts, random: &mut Random) {
+    if parts.signatures.is_empty() {
+        return;
+    }
+    let hierarchy = Hierarchy::of(parts);
+    let of = parts.signatures[random.below(parts.signatures.len())].clone();
+    let tuple = of.arguments.map(|top| fitting(parts, random, top));
+    for _ in 0..random.within(3, 12) {
+        let mut specialisers = [0; 3];
+        for place in 0..parts.functions[of.function as usize] as usize {
+            let above: Vec<u8> = hierarchy.classes().filter(|&class| hierarchy.is_under(tuple[place], class)).collect();
+            specialisers[place] = random.of(&above);
+        }
+        let body = body(parts, random, of.function, of.result);
+        let declared = specialisers;
+        add_method(parts, Method { function: of.function, specialisers, declared, result: of.result, body });
+    }
 }
 
 /// Adds a method where there is room for one and it has no twin; says whether it did.

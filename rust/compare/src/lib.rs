@@ -7,6 +7,7 @@ pub mod damage;
 pub mod generate;
 pub mod hierarchy;
 pub mod json;
+pub mod rivals;
 pub mod tally;
 pub mod vectors;
 

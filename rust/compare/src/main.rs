@@ -34,7 +34,7 @@ fn compare(count: u64, seed: u64) -> ExitCode {
     print!("{}", comparer.tally);
     let never = comparer.tally.never_seen();
     if !never.is_empty() {
-        println!("never seen: {never:?}");
+        println!("never seen: {}", never.join(", "));
     }
     if comparer.tally.differences == 0 && never.is_empty() {
         ExitCode::SUCCESS

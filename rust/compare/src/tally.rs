@@ -15,6 +15,10 @@ pub struct Tally {
     pub checks: [usize; NUMBERS],
     /// For each entry point, how often it gave each number.
     pub by_call: Vec<(&'static str, [usize; NUMBERS])>,
+    /// How many ambiguous sends had three or more rivals.
+    pub three_rivals: usize,
+    /// How many ambiguous sends had a beaten method with a higher number than the second rival that is named.
+    pub beaten_above: usize,
     /// How many runs ended with a value, spent, and deep.
     pub ends: [usize; 3],
     /// The most steps that a run made.
@@ -40,13 +44,29 @@ impl Tally {
         self.most_steps = self.most_steps.max(values[7]);
     }
 
-    /// The numbers 0 to 17 that no check gave, and those from 18 on, which are not a check's own, that no call gave.
-    pub fn never_seen(&self) -> Vec<usize> {
+    /// Counts an ambiguous send by the methods that apply to it, both lists rising. Where there are but two rivals, and no beaten
+    /// method above them, a wrong choice of two could pass.
+    pub fn count_rivals(&mut self, beaten: &[usize], rivals: &[usize]) {
+        let second = rivals[rivals.len() - 2];
+        self.three_rivals += (rivals.len() > 2) as usize;
+        self.beaten_above += beaten.iter().any(|&method| method > second) as usize;
+    }
+
+    /// The numbers 0 to 17 that no check gave, those from 18 on, which are not a check's own, that no call gave, and the kinds of
+    /// ambiguous sends that no call met.
+    pub fn never_seen(&self) -> Vec<String> {
         let seen = |number: usize| match number {
             0..=17 => self.checks[number] != 0,
             _ => self.by_call.iter().any(|(_, counts)| counts[number] != 0),
         };
-        (0..NUMBERS).filter(|&number| !seen(number)).collect()
+        let mut never: Vec<String> = (0..NUMBERS).filter(|&number| !seen(number)).map(|n| n.to_string()).collect();
+        if self.three_rivals == 0 {
+            never.push("three rivals".to_string());
+        }
+        if self.beaten_above == 0 {
+            never.push("a beaten method above a rival".to_string());
+        }
+        never
     }
 }
 
@@ -63,6 +83,8 @@ impl fmt::Display for Tally {
                 (0..NUMBERS).filter(|&n| counts[n] != 0).map(|n| format!("{n}:{}", counts[n])).collect();
             writeln!(f, "  {name}: {}", seen.join(" "))?;
         }
+        let (three, above) = (self.three_rivals, self.beaten_above);
+        writeln!(f, "ambiguous: {three} with three rivals or more, {above} with a beaten method above a named rival")?;
         let [value, spent, deep] = self.ends;
         writeln!(f, "runs: {value} value, {spent} spent, {deep} deep; at most {} steps", self.most_steps)
     }

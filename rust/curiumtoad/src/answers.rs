@@ -237,7 +237,7 @@ pub enum Lookup {
     Found(u64),
     /// 10: no method applies.
     NoMethod(Sent),
-    /// 11: no applicable method is at least as specific as every other; the two lowest unbeaten ones, lower first.
+    /// 11: no applicable method is at least as specific as every other; the two highest unbeaten ones, higher first.
     Rivals(Sent, [u64; 2]),
     /// The call was refused.
     Refused(Refusal),
@@ -340,7 +340,7 @@ impl Answer for Chart {
 pub enum Fault {
     /// 10: no method applies.
     NoMethod,
-    /// 11: no applicable method leads; the two lowest unbeaten ones.
+    /// 11: no applicable method leads; the two highest unbeaten ones, higher first.
     Rivals([u64; 2]),
     /// 12: an argument class is not under the declared class of the method found.
     Declared(u64),
@@ -518,7 +518,7 @@ pub enum Ending {
     Deep,
     /// 10: no method applies to this send.
     NoMethod(Sent),
-    /// 11: no applicable method leads for this send; the two lowest unbeaten ones.
+    /// 11: no applicable method leads for this send; the two highest unbeaten ones, higher first.
     Rivals(Sent, [u64; 2]),
     /// 12: an argument class is not under the declared class of this method, which the send finds.
     Declared(Sent, u64),

@@ -30,7 +30,7 @@ pub use answers::{
 use std::ops::Range;
 
 /// The version of the library's C functions that this crate declares.
-pub const VERSION: u32 = 1;
+pub const VERSION: u32 = 2;
 /// The least length of a scratch.
 pub const SCRATCH: usize = 16_384;
 /// The least length of a row.
@@ -82,8 +82,9 @@ pub fn ancestry(bundle: &[u8], scratch: &mut [u8], a: u64, b: u64) -> Result<boo
     Answer::of(raw::reply(|values| raw::ancestry(bundle, scratch, a, b, values)))
 }
 
-/// The method that a send finds: of those that apply, the one that is at least as specific as all the rest.
-/// Abstract classes are looked up too.
+/// The method that a send finds: of those that apply, the one that is at least as specific as all the rest. Where there is
+/// none, two rivals are named, applicable methods that no other one is at least as specific as: those with the highest
+/// numbers, the higher one first. Abstract classes are looked up too.
 ///
 /// ```
 /// use curiumtoad::{lookup, Lookup, Sent, SCRATCH};
@@ -92,7 +93,7 @@ pub fn ancestry(bundle: &[u8], scratch: &mut [u8], a: u64, b: u64) -> Result<boo
 /// let mut scratch = [0; SCRATCH];
 /// assert_eq!(lookup(&bundle, &mut scratch, 0, [1, 4, 0]), Lookup::Found(0));
 /// let sent = Sent { function: 0, arguments: [2, 4, 0] };
-/// assert_eq!(lookup(&bundle, &mut scratch, 0, [2, 4, 0]), Lookup::Rivals(sent, [0, 1]));
+/// assert_eq!(lookup(&bundle, &mut scratch, 0, [2, 4, 0]), Lookup::Rivals(sent, [1, 0]));
 /// # Ok::<(), std::io::Error>(())
 /// ```
 pub fn lookup(bundle: &[u8], scratch: &mut [u8], function: u64, arguments: [u64; 3]) -> Lookup {
@@ -129,7 +130,7 @@ pub fn send_type(bundle: &[u8], scratch: &mut [u8], row: &mut [u8], function: u6
 /// let Verdict::Broken(Finding::Coverage(broken)) = check(&bundle, &mut [0; SCRATCH]) else { panic!() };
 /// assert_eq!(broken.signature, 0);
 /// assert_eq!(broken.sent.arguments, [2, 4, 0]);
-/// assert_eq!(broken.fault, Fault::Rivals([0, 1]));
+/// assert_eq!(broken.fault, Fault::Rivals([1, 0]));
 /// # Ok::<(), std::io::Error>(())
 /// ```
 pub fn check(bundle: &[u8], scratch: &mut [u8]) -> Verdict {

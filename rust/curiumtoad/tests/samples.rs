@@ -38,7 +38,7 @@ fn accepted_samples() {
 
 #[test]
 fn refused_samples() {
-    assert_eq!(coverage(verdict("chart-3")).fault, Fault::Rivals([0, 1]));
+    assert_eq!(coverage(verdict("chart-3")).fault, Fault::Rivals([1, 0]));
     assert!(matches!(coverage(verdict("narrow-declared")).fault, Fault::Declared(_)));
     assert!(matches!(coverage(verdict("wide-result")).fault, Fault::Result(_)));
     assert_eq!(bodies(verdict("two-values")).fault, BodyFault::Values);
@@ -49,17 +49,20 @@ fn refused_samples() {
 
 #[test]
 fn a_broken_tuple_is_its_own_witness() {
-    let bundle = sample("chart-3");
-    let mut scratch = [0; SCRATCH];
-    let broken = coverage(check(&bundle, &mut scratch));
-    let arguments = broken.sent.arguments;
-    assert_eq!(witness(&bundle, &mut scratch, broken.signature, arguments), Witness::Broken(broken));
-    let sent = Sent { function: 0, arguments };
-    assert_eq!(lookup(&bundle, &mut scratch, 0, arguments), Lookup::Rivals(sent, [0, 1]));
-    let ending = Ending::Rivals(sent, [0, 1]);
-    assert_eq!(run(&bundle, &mut scratch, 0, arguments, 0), Run::Ended { ending, steps: 0 });
-    let finding = Finding::Coverage(broken);
-    assert_eq!(run_accepted(&bundle, &mut scratch, 0, arguments, 0), AcceptedRun::NotAccepted(finding));
+    for (name, arguments, rivals) in [("chart-3", [2, 4, 0], [1, 0]), ("three-rivals", [5, 0, 0], [3, 1])] {
+        let bundle = sample(name);
+        let mut scratch = [0; SCRATCH];
+        let sent = Sent { function: 0, arguments };
+        let broken = BrokenSignature { signature: 0, sent, fault: Fault::Rivals(rivals) };
+        let finding = Finding::Coverage(broken);
+        assert_eq!(check(&bundle, &mut scratch), Verdict::Broken(finding), "{name}");
+        assert_eq!(witness(&bundle, &mut scratch, 0, arguments), Witness::Broken(broken), "{name}");
+        assert_eq!(lookup(&bundle, &mut scratch, 0, arguments), Lookup::Rivals(sent, rivals), "{name}");
+        let ending = Ending::Rivals(sent, rivals);
+        assert_eq!(run(&bundle, &mut scratch, 0, arguments, 9), Run::Ended { ending, steps: 0 }, "{name}");
+        let accepted = run_accepted(&bundle, &mut scratch, 0, arguments, 9);
+        assert_eq!(accepted, AcceptedRun::NotAccepted(finding), "{name}");
+    }
 }
 
 #[test]

@@ -205,16 +205,31 @@ impl<const W: usize> Function<W> {
             return Broken::new(10, &named);
         };
         if methods.iter().any(|&m| !has(&self.below[first], m)) {
-            let beaten = |&m: &usize| methods.iter().any(|&other| other != m && has(&self.below[other], m));
-            let mut rivals: Vec<u64> = methods.iter().filter(|m| !beaten(m)).map(|&m| self.order[m] as u64).collect();
+            let mut rivals = self.rivals(&methods);
             rivals.sort_unstable();
-            named.extend(&rivals[..2]);
+            named.extend(rivals.iter().rev().take(2));
             return Broken::new(11, &named);
         }
         named.push(self.order[first] as u64);
         let method = tables.methods[self.order[first] as usize];
         let held = (0..self.places).all(|place| tables.under(tuple[place], method[4 + place]));
         Broken::new(if held { 13 } else { 12 }, &named)
+    }
+
+    /// The numbers of those methods that no other of them beats. The methods come by their places in the order, where a method
+    /// stands after all that beat it, so one pass is enough.
+    fn rivals(&self, methods: &[usize]) -> Vec<u64> {
+        let mut beaten: Set<W> = [0; W];
+        let mut rivals = Vec::new();
+        for &m in methods {
+            if !has(&beaten, m) {
+                rivals.push(self.order[m] as u64);
+                for (word, below) in beaten.iter_mut().zip(self.below[m]) {
+                    *word |= below;
+                }
+            }
+        }
+        rivals
     }
 }
 

@@ -44,7 +44,8 @@ impl Matrix {
 pub enum Found {
     One(usize),
     None,
-    /// Of the methods that apply, and that none of the rest equals or beats in being specific, the two lowest.
+    /// Of the methods that apply, and that none of the rest equals or beats in being specific, the two highest, the higher
+    /// one first.
     Rivals(usize, usize),
 }
 
@@ -63,7 +64,7 @@ pub fn lookup(bundle: &Bundle, matrix: &Matrix, function: usize, tuple: Triple) 
         return Found::One(method);
     }
     let unbeaten = |&m: &usize| applicable.iter().all(|&other| other == m || !at_least(other, m));
-    let mut rivals = applicable.iter().copied().filter(unbeaten);
+    let mut rivals = applicable.iter().copied().rev().filter(unbeaten);
     match (rivals.next(), rivals.next()) {
         (Some(first), Some(second)) => Found::Rivals(first, second),
         _ => unreachable!("without twins, fewer than two unbeaten methods would mean that one leads"),

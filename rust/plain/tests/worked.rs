@@ -1,6 +1,6 @@
 //! The worked cases of the rules.
 
-use builder::{chart_3, chart_4, chart_5, looping, widest_chart, Parts, NEW};
+use builder::{chart_3, chart_4, chart_5, looping, three_rivals, widest_chart, Parts, NEW};
 use plain::{Reply, LINE, ROW, SCRATCH, TEXT};
 
 fn reply(number: u8, named: &[u64]) -> Reply {
@@ -33,13 +33,15 @@ fn lookups() {
     assert_eq!(looked_up(&chart_3(), 1, 3), reply(0, &[2]));
     assert_eq!(looked_up(&chart_3(), 1, 4), reply(0, &[0]));
     assert_eq!(looked_up(&chart_3(), 2, 3), reply(0, &[1]));
-    assert_eq!(looked_up(&chart_3(), 2, 4), reply(11, &[0, 2, 4, 0, 0, 1]));
+    assert_eq!(looked_up(&chart_3(), 2, 4), reply(11, &[0, 2, 4, 0, 1, 0]));
     assert_eq!(looked_up(&chart_4(), 2, 4), reply(0, &[3]));
+    assert_eq!(looked_up(&three_rivals(), 5, 0), reply(11, &[0, 5, 0, 0, 3, 1]));
 }
 
 #[test]
 fn checks() {
-    assert_eq!(checked(&chart_3()), reply(11, &[0, 0, 2, 4, 0, 0, 1]));
+    assert_eq!(checked(&chart_3()), reply(11, &[0, 0, 2, 4, 0, 1, 0]));
+    assert_eq!(checked(&three_rivals()), reply(11, &[0, 0, 5, 0, 0, 3, 1]));
     assert_eq!(checked(&chart_4()), reply(0, &[]));
     assert_eq!(checked(&chart_5()), reply(0, &[]));
     assert_eq!(checked(&looping()), reply(0, &[]));
@@ -66,6 +68,7 @@ fn several_broken() -> Parts {
 fn runs() {
     assert_eq!(ran(&chart_4(), [2, 4, 0], 1), reply(0, &[0, 7, 0, 0, 0, 0, 0, 1]));
     assert_eq!(ran(&chart_4(), [2, 4, 0], 0), reply(0, &[1]));
+    assert_eq!(ran(&three_rivals(), [5, 0, 0], 9), reply(11, &[0, 5, 0, 0, 3, 1]));
     assert_eq!(ran(&looping(), [0; 3], 31), reply(0, &[1, 0, 0, 0, 0, 0, 0, 31]));
     assert_eq!(ran(&looping(), [0; 3], 32), reply(0, &[2, 0, 0, 0, 0, 0, 0, 31]));
 }
@@ -101,7 +104,7 @@ fn openings() {
 #[test]
 fn listings() {
     let mut text = [9; TEXT];
-    let expected = b"classes 8 functions 1 signatures 1 methods 3\nrefused 11 signature 0 send 0 2 4 methods 0 1\n";
+    let expected = b"classes 8 functions 1 signatures 1 methods 3\nrefused 11 signature 0 send 0 2 4 methods 1 0\n";
     let bundle = chart_3().bytes();
     assert_eq!(plain::listing(&bundle, &mut text), reply(0, &[expected.len() as u64]));
     assert_eq!(text[..expected.len()], expected[..]);

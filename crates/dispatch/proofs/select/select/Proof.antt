@@ -3,7 +3,7 @@
 -- Assumes nothing.
 use Prim.Native.Nat.{ℕ, _+_, _-_, _≤_, _<_}
 use native.Mathlib.Omega.{arith}
-use mathlib.Core.Path.{_≡_, sym, ap₂, _∙_}
+use mathlib.Core.Path.{_≡_, sym, _∙_}
 use mathlib.Core.Bool.{true, false, _||_}
 use lib.Dec.{eqb}
 use lib.ListN.{length, getD}
@@ -12,11 +12,11 @@ use borrow.Author.Tests.{eq-eqb, ne-eqb, not-true, not-false}
 use Rattle.rules.specs.Model.{modelOf}
 use Rattle.rules.specs.Lookup as rules
 use Rattle.rules.proofs.Lists.{or-left, or-right, or-none, getD-mem, none-places, every-places, every-broken}
-use Rattle.rules.proofs.Lookup.{none-selected}
 use Rattle.rules.proofs.Selection.{leading-selected}
 use Rattle.layout.proofs.Opened.{wellformed-of}
 use Rattle.dispatch.specs.Found.{foundOf}
 use Rattle.dispatch.proofs.Listed.{each-method, candidate-at, empty-selected}
+use Rattle.dispatch.proofs.Rivals.{Unled, last-there, next-there, both-named}
 use Rattle.dispatch.proofs.select.select.Statement.{statement}
 use Rattle.dispatch.proofs.select.select.Tie as tie
 
@@ -86,15 +86,38 @@ returns-2 c =
     sym (leading-selected _ (wellformed-of (start .pre .0 .opened)) _ ms (each-method (start .pre .1 .methods)) _
     (getD-mem ms (q .before .candidates .at) 0 (q .candidates-test .taken)) leads)
 
+-- past the search nothing leads
+unled : (c : tie.After-candidates Inv-loop μ-loop Inv-candidates μ-candidates)
+    → let a = c .before .before .before .before .before .before .before .args in
+    Unled (modelOf (a .bytes .now)) (a .f) (a .list .now)
+unled c =
+    let q = c .before in
+    let start = q .before .before .before .before .before .before in
+    let all = q .candidates .inv .1 (c .candidates-test .left) in
+    let ms = start .args .list .now in
+    record {
+      formed = wellformed-of (start .pre .0 .opened);
+      each = each-method (start .pre .1 .methods);
+      some = omega arith;
+      free = none-places (rules.leads (modelOf (start .args .bytes .now)) ms) ms 0 (λ k r. q .candidates .inv .2 k (omega arith) (omega arith));
+    }
+
+last-rival-requires : tie.Need-last-rival-requires Inv-loop μ-loop Inv-candidates μ-candidates
+last-rival-requires c κs =
+    let p = c .before .before .before .before .before .before .before .pre in
+    (p .0, (p .1, (omega arith, last-there (unled c))))
+
+last-rival-requires-2 : tie.Need-last-rival-requires-2 Inv-loop μ-loop Inv-candidates μ-candidates
+last-rival-requires-2 c κs =
+    let p = c .before .before .before .before .before .before .before .before .before .pre in
+    let last = c .before .last-rival .ensures in
+    (p .0, (p .1, (omega (arith, last .within), next-there (unled (c .before .before)) last)))
+
 returns-3 : tie.Need-returns-3 Inv-loop μ-loop Inv-candidates μ-candidates
 unfolding foundOf
 returns-3 c =
-    let q = c .before .before .before in
-    let all = q .candidates .inv .1 (c .before .before .candidates-test .left) in
-    let a = q .before .before .before .before .before .before .args in
-    let ms = a .list .now in
-    let none = none-places (rules.leads (modelOf (a .bytes .now)) ms) ms 0 (λ k r. q .candidates .inv .2 k (omega arith) (omega arith)) in
-    ap₂ rules.ambiguous (c .before .rival .ensures) (c .rival2 .ensures) ∙ sym (none-selected _ _ (omega arith) none)
+    let last = c .before .before .before in
+    both-named (unled (last .before)) (last .last-rival .ensures) (c .before .last-rival2 .ensures)
 
 pub select-spec : {M : Type 1} → statement M
 select-spec =
@@ -122,6 +145,10 @@ select-spec =
     (λ c. omega arith)
     loop-again-2
     returns-2
-    (λ c κs. c .before .before .before .before .before .before .before .pre)
-    (λ c κs. c .before .before .before .before .before .before .before .before .pre)
+    last-rival-requires
+    (λ c. omega (arith, c .last-rival .ensures .within))
+    (λ c. omega (arith, c .before .last-rival .ensures .within))
+    last-rival-requires-2
+    (λ c. omega (arith, c .before .before .last-rival .ensures .within, c .last-rival2 .ensures .within))
+    (λ c. omega (arith, c .before .before .before .last-rival .ensures .within, c .before .last-rival2 .ensures .within))
     returns-3)

@@ -1,0 +1,60 @@
+"""Vectors that were made before some of the requests landed, with the answers of the rules as they stand."""
+import json
+import re
+import sys
+
+from made import write
+from rules import rivals
+
+
+def request_of(folder):
+    """the last request that the vectors of a folder follow: the folder's name, where that is two digits, and else 0"""
+    name = folder.resolve().name
+    return int(name) if re.fullmatch("[0-9]{2}", name) else 0
+
+
+def newest_rivals(entry):
+    """Three: number 11 names the two highest rivals, the higher first; before, it named the two lowest, the lower first"""
+    bundle = bytes.fromhex(entry["bundle"])
+
+    def renamed(named, lowest, highest):
+        if named != lowest:
+            sys.exit(f"number 11 names {named!r} and not {lowest!r}, the two lowest rivals, for the bundle {entry['bundle'][:200]}")
+        return highest
+
+    for answer in [entry["answer"]] if "answer" in entry else [call["answer"] for call in entry["calls"]]:
+        if answer["number"] == 11:
+            falling = rivals(bundle, answer["function"], *answer["tuple"])
+            pairs = falling[::-1][:2], falling[:2]
+            answer["methods"] = renamed(answer["methods"], *pairs)
+            if "listing" in entry:
+                start, word, named = entry["listing"].rpartition(" methods ")
+                entry["listing"] = start + word + renamed(named, *("{} {}\n".format(*pair) for pair in pairs))
+
+
+# The requests that change answers of vectors made before them, each with what brings such an entry to its rules.
+CHANGES = {3: newest_rivals}
+
+
+def entries(path):
+    """the entries of a file, as the rules stand"""
+    request = request_of(path.parent)
+    for line in path.read_text().splitlines():
+        entry = json.loads(line)
+        for landed, change in CHANGES.items():
+            if request < landed:
+                change(entry)
+        yield entry
+
+
+def write_current(folder, out):
+    """writes the files of a folder, with their entries as the rules stand, to a folder that holds nothing else"""
+    paths = sorted(folder.glob("*.jsonl"))
+    if not paths:
+        sys.exit(f"there are no vectors in {folder}")
+    out.mkdir(parents=True, exist_ok=True)
+    if any(out.iterdir()):
+        sys.exit(f"{out} is not empty")
+    write({
+        out / path.name: "".join(json.dumps(entry, separators=(",", ":"), ensure_ascii=False) + "\n" for entry in entries(path)).encode()
+        for path in paths})
