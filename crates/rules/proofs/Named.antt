@@ -48,8 +48,11 @@ stops-number e = cc
 stopped-number : {a b : ℕ} {xs ys : List ℕ} → stopped a xs ≡ stopped b ys → a ≡ b
 stopped-number e = cc
 
--- What is found of a send, by the coverage rule and by a run.
+-- What is found of a send, by lookup, by the coverage rule and by a run.
 module _ (M : Model) (w : Wellformed M) where
+  ambiguous-named : (f : ℕ) (args ms : List ℕ) (m n : ℕ) → lookup M f args ≡ ambiguous m n → ms ≡ m ∷ n ∷ [] → Named M f args ms
+  ambiguous-named f args ms m n e both = record { newest = m; next = n; both = both; rivals = lookup-rivals M w f args m n .0 e }
+
   pub judge-named : (s : ℕ) (args ms : List ℕ) → judge M s args ≡ fails 11 ms → Named M (M .sigFunction s) args ms
   unfolding judge judgeFound
   judge-named s args ms e = go (lookup M (M .sigFunction s) args) refl e
@@ -61,7 +64,7 @@ module _ (M : Model) (w : Wellformed M) where
 
       go : (r : Found) → lookup M (M .sigFunction s) args ≡ r → judgeFound M s args r ≡ fails 11 ms → Named M (M .sigFunction s) args ms
       go missing q h = absurd (omega (arith, fails-number h))
-      go (ambiguous m n) q h = record { newest = m; next = n; both = cc; rivals = lookup-rivals M w (M .sigFunction s) args m n .0 q }
+      go (ambiguous m n) q h = ambiguous-named (M .sigFunction s) args ms m n q (cc)
       go (found m) q h = absurd (held m (declaredHold M m args) (subclass M (M .result m) (M .sigResult s)) h)
 
   pub target-named : (f : ℕ) (args ms : List ℕ) → target M f args ≡ stops 11 ms → Named M f args ms
@@ -74,7 +77,7 @@ module _ (M : Model) (w : Wellformed M) where
 
       go : (r : Found) → lookup M f args ≡ r → targetFound M args r ≡ stops 11 ms → Named M f args ms
       go missing q h = absurd (omega (arith, stops-number h))
-      go (ambiguous m n) q h = record { newest = m; next = n; both = cc; rivals = lookup-rivals M w f args m n .0 q }
+      go (ambiguous m n) q h = ambiguous-named f args ms m n q (cc)
       go (found m) q h = absurd (held m (declaredHold M m args) h)
 
   -- a run that 11 stops names one
@@ -142,8 +145,7 @@ lookup-call-named b scratch f tuple vs e =
         → (ms : List ℕ) × (vs ≡ f ∷ tuple ++ ms) × Named (modelOf b) f (used (modelOf b) f tuple) ms
     go w (found m) q h = absurd (false≢true (cc))
     go w missing q h = absurd (omega (arith, refuses-number h))
-    go w (ambiguous m n) q h =
-        (m ∷ n ∷ [], cc, record { newest = m; next = n; both = refl; rivals = lookup-rivals (modelOf b) w f (used (modelOf b) f tuple) m n .0 q })
+    go w (ambiguous m n) q h = (m ∷ n ∷ [], cc, ambiguous-named (modelOf b) w f (used (modelOf b) f tuple) (m ∷ n ∷ []) m n q refl)
 
 pub witness-call-named : (b : List ℕ) (scratch s : ℕ) (tuple vs : List ℕ) → witnessCall b scratch s tuple ≡ refuses 11 vs
     → let f = modelOf b .sigFunction s in
