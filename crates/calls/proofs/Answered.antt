@@ -21,9 +21,9 @@ use Rattle.layout.specs.declared.bundle.Bundle.{Bundle}
 use Rattle.layout.proofs.Opened.{counts-of}
 use Rattle.typing.specs.Rows.{classTypes}
 use Rattle.typing.specs.Sends.{inhabited}
-use Rattle.calls.specs.Send.{Passes}
+use Rattle.sends.specs.Send.{Passes}
 use Rattle.calls.specs.Said.{blank, coverageValues}
-use Rattle.calls.proofs.Sent.{used-padded}
+use Rattle.sends.proofs.Sent.{used-padded}
 
 -- The answers of the ancestry question.
 module _ {b : List ℕ} {t : Bundle} (o : Opened b t) (a c : ℕ) where

@@ -1,4 +1,2 @@
-pub mod Sent
-pub mod Signatures
 pub mod Answered
 pub mod Verdicts

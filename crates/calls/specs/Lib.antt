@@ -1,4 +1,2 @@
 pub mod Answers
-pub mod Send
-pub mod Covered
 pub mod Said

@@ -2,10 +2,8 @@
 // and call these.
 pub mod ancestry;
 pub mod check;
-pub mod covered;
 pub mod lookup;
 pub mod refusal;
 pub mod run;
-pub mod send;
 pub mod send_type;
 pub mod witness;

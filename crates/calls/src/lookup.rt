@@ -1,11 +1,11 @@
 // Lookup: which method a send finds.
 use crate::refusal::Refusal;
-use crate::send::classes_of;
 use dispatch::index::index_methods;
 use dispatch::lookup::lookup;
 use dispatch::select::Found;
 use dispatch::send::Send;
 use layout::bundle::Bundle;
+use sends::send::classes_of;
 ghost use mathlib.Core.Path.{_≡_};
 ghost use Rattle.rules.specs.Model.{modelOf};
 ghost use Rattle.rules.specs.Calls.{lookupIn};

@@ -1,11 +1,11 @@
 // The run of a send.
 use crate::refusal::Refusal;
-use crate::send::all_concrete;
-use crate::send::classes_of;
 use dispatch::send::Send;
 use layout::bundle::Bundle;
 use machine::run::Outcome;
 use machine::run::run;
+use sends::send::all_concrete;
+use sends::send::classes_of;
 ghost use mathlib.Core.Path.{_≡_};
 ghost use Rattle.rules.specs.Model.{modelOf};
 ghost use Rattle.rules.specs.Calls.{runIn};

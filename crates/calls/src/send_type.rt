@@ -1,8 +1,8 @@
 // The static type of a send.
 use crate::refusal::Refusal;
-use crate::send::classes_of;
 use dispatch::send::Send;
 use layout::bundle::Bundle;
+use sends::send::classes_of;
 use typing::row::ROW_BYTES;
 use typing::send::send_type;
 ghost use mathlib.Core.Path.{_≡_};

@@ -1,14 +1,14 @@
 // The witness check: the coverage rule for one signature and one tuple.
-use crate::covered::covers;
 use crate::refusal::Refusal;
-use crate::send::all_concrete;
-use crate::send::classes_of;
 use coverage_rule::judge::Judgement;
 use coverage_rule::judge::judge;
 use dispatch::send::Send;
 use dispatch::send::Tuple;
 use layout::bundle::Bundle;
 use layout::field::sig_function;
+use sends::covered::covers;
+use sends::send::all_concrete;
+use sends::send::classes_of;
 ghost use mathlib.Core.Path.{_≡_};
 ghost use mathlib.Core.Bool.{_&&_};
 ghost use Prim.Native.Nat.{_<_};

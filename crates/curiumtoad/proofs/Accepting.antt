@@ -37,7 +37,7 @@ use Rattle.curiumtoad.specs.declared.run_accepted.AcceptedRun.{AcceptedR
 use Rattle.curiumtoad.specs.declared.run_accepted.AcceptedRun.the-variants as accepted
 use Rattle.calls.specs.Said.{verdictSaid, runSaid}
 use Rattle.curiumtoad.specs.Alike.{CoveredOpening, SoundAnswer, JudgedAlike}
-use Rattle.calls.specs.Covered.{coversSend}
+use Rattle.sends.specs.Covered.{coversSend}
 use Rattle.curiumtoad.specs.Accepted.{Unstopped, Ends, SoundEnd, Accepts}
 use Rattle.curiumtoad.proofs.Called.{scratch-filled}
 use Rattle.curiumtoad.proofs.Judging.{given, accepted-given}

@@ -11,13 +11,13 @@ use Rattle.calls.proofs.lookup.lookup_in.Statement.{statement}
 use Rattle.calls.proofs.lookup.lookup_in.Tie as tie
 
 array-share-prefix-classes : tie.Need-array-share-prefix-classes
-array-share-prefix-classes c = let e = c .before .before .before in e .before .before .classes-of .ensures .1 (not-false _ (e .if1 .left)) .within
+array-share-prefix-classes c = let e = c .before .before .before in e .before .before .classes-of .ensures .1 .0 (not-false _ (e .if1 .left)) .within
 
 lookup-requires : tie.Need-lookup-requires
 lookup-requires c κs =
     let e = c .before .before .before .before in
     let r = e .before .before in
-    (r .before .before .before .pre, (c .before .before .index-methods .ensures, r .classes-of .ensures .1 (not-false _ (e .if1 .left)) .arguments))
+    (r .before .before .before .pre, (c .before .before .index-methods .ensures, r .classes-of .ensures .1 .0 (not-false _ (e .if1 .left)) .arguments))
 
 returns-2 : tie.Need-returns-2
 unfolding foundOf foundAnswer
@@ -26,7 +26,7 @@ returns-2 c =
     let e = l .before .before .before .before .before in
     let r = e .before .before in
     let sent = not-false _ (e .if1 .left) in
-    lookup-found _ _ _ (sym (r .classes-of .ensures .0) ∙ sent) (r .classes-of .ensures .1 sent) (sym (ap foundOf (c .before .m .given .1)) ∙ l .lookup .ensures)
+    lookup-found _ _ _ (sym (r .classes-of .ensures .0) ∙ sent) (r .classes-of .ensures .1 .0 sent) (sym (ap foundOf (c .before .m .given .1)) ∙ l .lookup .ensures)
 
 returns-3 : tie.Need-returns-3
 unfolding foundOf foundAnswer
@@ -35,7 +35,7 @@ returns-3 c =
     let e = l .before .before .before .before .before in
     let r = e .before .before in
     let sent = not-false _ (e .if1 .left) in
-    lookup-found _ _ _ (sym (r .classes-of .ensures .0) ∙ sent) (r .classes-of .ensures .1 sent) (sym (ap foundOf (c .enum-told .given .1)) ∙ l .lookup .ensures)
+    lookup-found _ _ _ (sym (r .classes-of .ensures .0) ∙ sent) (r .classes-of .ensures .1 .0 sent) (sym (ap foundOf (c .enum-told .given .1)) ∙ l .lookup .ensures)
 
 returns-4 : tie.Need-returns-4
 unfolding foundOf foundAnswer
@@ -44,7 +44,7 @@ returns-4 c =
     let e = l .before .before .before .before .before in
     let r = e .before .before in
     let sent = not-false _ (e .if1 .left) in
-    lookup-found _ _ _ (sym (r .classes-of .ensures .0) ∙ sent) (r .classes-of .ensures .1 sent) (sym (ap foundOf (c .before .m2 .given .1)) ∙ l .lookup .ensures)
+    lookup-found _ _ _ (sym (r .classes-of .ensures .0) ∙ sent) (r .classes-of .ensures .1 .0 sent) (sym (ap foundOf (c .before .m2 .given .1)) ∙ l .lookup .ensures)
 
 pub lookup-in-spec : {M : Type 1} → statement M
 lookup-in-spec =

@@ -26,13 +26,13 @@ returns-2 c =
     rw (type-absent (modelOf (a .bundle .now)) (a .send .function) (tupleOf (a .send)) (length (a .row .now)) (search needs) (sym (r .classes-of .ensures .0) ∙ not-true _ (c .if2 .taken))) (refl, refl)
 
 array-share-prefix-classes : tie.Need-array-share-prefix-classes
-array-share-prefix-classes c = let e = c .before in e .before .before .classes-of .ensures .1 (not-false _ (e .if2 .left)) .within
+array-share-prefix-classes c = let e = c .before in e .before .before .classes-of .ensures .1 .0 (not-false _ (e .if2 .left)) .within
 
 send-type-requires : tie.Need-send-type-requires
 send-type-requires c κs =
     let e = c .before .before .before in
     let r = e .before .before in
-    (r .before .before .before .before .before .pre, (r .classes-of .ensures .1 (not-false _ (e .if2 .left)) .arguments, search needs))
+    (r .before .before .before .before .before .pre, (r .classes-of .ensures .1 .0 (not-false _ (e .if2 .left)) .arguments, search needs))
 
 returns-3 : tie.Need-returns-3
 returns-3 c =
@@ -41,7 +41,7 @@ returns-3 c =
     let r = e .before .before in
     let a = r .before .before .before .before .before .args in
     let sent = not-false _ (e .if2 .left) in
-    rw (type-answered (modelOf (a .bundle .now)) (a .send .function) (tupleOf (a .send)) (length (a .row .now)) (search needs) (sym (r .classes-of .ensures .0) ∙ sent) (r .classes-of .ensures .1 sent))
+    rw (type-answered (modelOf (a .bundle .now)) (a .send .function) (tupleOf (a .send)) (length (a .row .now)) (search needs) (sym (r .classes-of .ensures .0) ∙ sent) (r .classes-of .ensures .1 .0 sent))
     (licensed-blank _ (t .send-type .ensures .0) .0 (c .if3 .taken), t .send-type .ensures .1)
 
 returns-4 : tie.Need-returns-4
@@ -51,7 +51,7 @@ returns-4 c =
     let r = e .before .before in
     let a = r .before .before .before .before .before .args in
     let sent = not-false _ (e .if2 .left) in
-    rw (type-answered (modelOf (a .bundle .now)) (a .send .function) (tupleOf (a .send)) (length (a .row .now)) (search needs) (sym (r .classes-of .ensures .0) ∙ sent) (r .classes-of .ensures .1 sent))
+    rw (type-answered (modelOf (a .bundle .now)) (a .send .function) (tupleOf (a .send)) (length (a .row .now)) (search needs) (sym (r .classes-of .ensures .0) ∙ sent) (r .classes-of .ensures .1 .0 sent))
     (licensed-blank _ (t .send-type .ensures .0) .1 (c .if3 .left), t .send-type .ensures .1)
 
 pub send-type-in-spec : {M : Type 1} → statement M

@@ -17,14 +17,14 @@ returns c =
     witness-unsent (p .0 .opened) _ _ _ (p .1 .0) (p .1 .1) (sym (r .classes-of .ensures .0) ∙ not-true _ (c .if1 .taken))
 
 array-share-prefix-classes : tie.Need-array-share-prefix-classes
-array-share-prefix-classes c = let e = c .before in e .before .before .classes-of .ensures .1 (not-false _ (e .if1 .left)) .within
+array-share-prefix-classes c = let e = c .before in e .before .before .classes-of .ensures .1 .0 (not-false _ (e .if1 .left)) .within
 
 is-witness-requires : tie.Need-is-witness-requires
 is-witness-requires c κs =
     let e = c .before .before in
     let r = e .before .before in
     let p = r .before .before .before .pre in
-    (p .0, (p .1 .0, rw (p .1 .1) at (r .classes-of .ensures .1 (not-false _ (e .if1 .left)) .arguments)))
+    (p .0, (p .1 .0, rw (p .1 .1) at (r .classes-of .ensures .1 .0 (not-false _ (e .if1 .left)) .arguments)))
 
 returns-2 : tie.Need-returns-2
 returns-2 c =
@@ -33,7 +33,7 @@ returns-2 c =
     let r = e .before .before in
     let p = r .before .before .before .pre in
     let sent = not-false _ (e .if1 .left) in
-    witness-apart (p .0 .opened) _ _ _ (p .1 .0) (p .1 .1) (sym (r .classes-of .ensures .0) ∙ sent) (r .classes-of .ensures .1 sent)
+    witness-apart (p .0 .opened) _ _ _ (p .1 .0) (p .1 .1) (sym (r .classes-of .ensures .0) ∙ sent) (r .classes-of .ensures .1 .0 sent)
     (sym (w .is-witness .ensures) ∙ not-true _ (c .if2 .taken))
 
 array-share-prefix-classes-2 : tie.Need-array-share-prefix-classes-2
@@ -50,7 +50,7 @@ returns-3 c =
     let p = g .pre in
     let sent = not-false _ (e .if1 .left) in
     sym (ap ruleSaid (c .enum-told .given .1)) ∙ a .rule-answer .ensures
-    ∙ witness-judged (p .0 .opened) _ _ (tupleOf (g .args .send)) (p .1 .0) (p .1 .1) (sym (r .classes-of .ensures .0) ∙ sent) (r .classes-of .ensures .1 sent) refl
+    ∙ witness-judged (p .0 .opened) _ _ (tupleOf (g .args .send)) (p .1 .0) (p .1 .1) (sym (r .classes-of .ensures .0) ∙ sent) (r .classes-of .ensures .1 .0 sent) refl
     (sym (w .is-witness .ensures) ∙ not-false _ (d .if2 .left)) (a .before .judge .ensures)
 
 returns-4 : tie.Need-returns-4
@@ -64,7 +64,7 @@ returns-4 c =
     let p = g .pre in
     let sent = not-false _ (e .if1 .left) in
     sym (ap ruleSaid (c .before .found .given .1)) ∙ a .rule-answer .ensures
-    ∙ witness-judged (p .0 .opened) _ _ (tupleOf (g .args .send)) (p .1 .0) (p .1 .1) (sym (r .classes-of .ensures .0) ∙ sent) (r .classes-of .ensures .1 sent) refl
+    ∙ witness-judged (p .0 .opened) _ _ (tupleOf (g .args .send)) (p .1 .0) (p .1 .1) (sym (r .classes-of .ensures .0) ∙ sent) (r .classes-of .ensures .1 .0 sent) refl
     (sym (w .is-witness .ensures) ∙ not-false _ (d .if2 .left)) (a .before .judge .ensures)
 
 pub witness-send-spec : {M : Type 1} → statement M

@@ -1,11 +1,11 @@
--- `calls::covered::covers_send` meets its contract: the function first, then the classes.
+-- `sends::covered::covers_send` meets its contract: the function first, then the classes.
 -- Assumes nothing.
 use borrow.Author.Needs.{needs}
 use borrow.Author.Tests.{eq-eqb, ne-eqb}
 use mathlib.Core.Path.{sym, _∙_}
-use Rattle.calls.specs.Covered.{coversSend}
-use Rattle.calls.proofs.covered.covers_send.Statement.{statement}
-use Rattle.calls.proofs.covered.covers_send.Tie as tie
+use Rattle.sends.specs.Covered.{coversSend}
+use Rattle.sends.proofs.covered.covers_send.Statement.{statement}
+use Rattle.sends.proofs.covered.covers_send.Tie as tie
 
 returns : tie.Need-returns
 unfolding coversSend

@@ -6,7 +6,7 @@ use layout::bytes::byte_at;
 use layout::field::arity;
 use layout::field::is_concrete;
 ghost use mathlib.Core.Path.{_≡_};
-ghost use mathlib.Core.Bool.{true};
+ghost use mathlib.Core.Bool.{true, false};
 ghost use Prim.Native.Nat.{_<_};
 ghost use Rattle.rules.specs.Bounded.{every};
 ghost use Rattle.rules.specs.Layout.{tupleRule};
@@ -15,7 +15,7 @@ ghost use Rattle.rules.specs.Coverage.{concreteClass};
 ghost use Rattle.rules.specs.Calls.{sendRule, matrixStride};
 ghost use Rattle.layout.specs.Opened.{Opened};
 ghost use Rattle.dispatch.specs.Send.{classesOf, tupleOf};
-ghost use Rattle.calls.specs.Send.{fitsPlace, Passes};
+ghost use Rattle.sends.specs.Send.{fitsPlace, Passes, PassesNone};
 
 // Whether a number is a class at a used place, the first n, or 0 at another.
 fn fits(classes: usize, n: usize, i: usize, x: usize) -> bool
@@ -64,18 +64,19 @@ fn class_bytes(tuple: Tuple) -> [u8; Bundle::PLACES]
     [tuple.a0 as u8, tuple.a1 as u8, tuple.a2 as u8]
 }
 
-// Whether a send keeps its rule; where it does, the classes at its places, of which the first `count` are used.
-pub(crate) struct Passed {
+// Whether a send keeps its rule; where it does, the classes at its places, of which the first `count` are used, and zeros where it does not.
+pub struct Passed {
     pub is_send: bool,
     pub count: usize,
     pub classes: [u8; Bundle::PLACES],
 }
 
 // The classes that a send passes.
-pub(crate) fn classes_of(bundle: &[u8], b: Bundle, send: Send) -> Passed
+pub fn classes_of(bundle: &[u8], b: Bundle, send: Send) -> Passed
     requires { ⌜ Opened (now bundle) b ⌝ }
     ensures { λ r. ⌜ r .«is_send» ≡ sendRule (modelOf (now (bundle .entry))) (send .function) (tupleOf send) ⌝ }
     ensures { λ r. ⌜ (r .«is_send» ≡ true → Passes (modelOf (now (bundle .entry))) (send .function) (tupleOf send) (r .count) (r .classes)) ⌝ }
+    ensures { λ r. ⌜ (r .«is_send» ≡ false → PassesNone (r .count) (r .classes)) ⌝ }
 {
     if !is_send(bundle, b, send) {
         return Passed {
@@ -94,7 +95,7 @@ pub(crate) fn classes_of(bundle: &[u8], b: Bundle, send: Send) -> Passed
 }
 
 // Whether all of these classes are concrete.
-pub(crate) fn all_concrete(bundle: &[u8], b: Bundle, args: &[u8]) -> bool
+pub fn all_concrete(bundle: &[u8], b: Bundle, args: &[u8]) -> bool
     requires { ⌜ Opened (now bundle) b ⌝ }
     requires { ⌜ present (modelOf (now bundle)) (now args) ≡ true ⌝ }
     ensures { λ r. ⌜ r ≡ every (concreteClass (modelOf (now (bundle .entry)))) (now (args .entry)) ⌝ }

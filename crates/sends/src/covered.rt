@@ -15,16 +15,10 @@ ghost use Rattle.dispatch.specs.Prepared.{Prepared};
 ghost use Rattle.rules.specs.Calls.{sendRule, used};
 ghost use Rattle.dispatch.specs.Places.{Arguments};
 ghost use Rattle.dispatch.specs.Send.{tupleOf};
-ghost use Rattle.calls.specs.Covered.{coversSend};
+ghost use Rattle.sends.specs.Covered.{coversSend};
 
 // Whether the signature covers argument classes of its function.
-pub(crate) fn covers(
-    bundle: &[u8],
-    b: Bundle,
-    scratch: &[u8],
-    signature: usize,
-    args: &[u8],
-) -> bool
+pub fn covers(bundle: &[u8], b: Bundle, scratch: &[u8], signature: usize, args: &[u8]) -> bool
     requires { ⌜ Prepared (now bundle) b (now scratch) ⌝ }
     requires { ⌜ signature < b .signatures ⌝ }
     requires { ⌜ Arguments (modelOf (now bundle)) (modelOf (now bundle) .sigFunction signature) (now args) ⌝ }

@@ -1,4 +1,4 @@
--- `calls::covered::some_covers` meets its contract. The loop's invariant: no signature before s covers the send.
+-- `sends::covered::some_covers` meets its contract. The loop's invariant: no signature before s covers the send.
 -- Assumes nothing.
 use borrow.Author.Needs.{needs}
 use borrow.Author.Count.{below-none, below-more}
@@ -10,9 +10,9 @@ use Rattle.rules.specs.Bounded.{upto}
 use Rattle.rules.specs.Model.{modelOf}
 use Rattle.rules.proofs.Lists.{any-from, any-none, upto-below, below-upto}
 use Rattle.layout.proofs.Opened.{counts-of}
-use Rattle.calls.specs.Covered.{coversSend}
-use Rattle.calls.proofs.covered.some_covers.Statement.{statement}
-use Rattle.calls.proofs.covered.some_covers.Tie as tie
+use Rattle.sends.specs.Covered.{coversSend}
+use Rattle.sends.proofs.covered.some_covers.Statement.{statement}
+use Rattle.sends.proofs.covered.some_covers.Tie as tie
 
 abbrev Inv-loop : tie.InvT-loop
 Inv-loop bundle b scratch f args signatures s₀ s = (s ≤ signatures) × ((k : ℕ) → k < s → coversSend (modelOf bundle) f args k ≡ false)

@@ -5,7 +5,8 @@ use mathlib.Core.Path.{_≡_}
 use mathlib.Core.Bool.{Bool, cond}
 use mathlib.Core.List.{List}
 use lib.Dec.{ltb, eqb}
-use lib.ListN.{length, take}
+use lib.ListN.{length, replicate, take}
+use Rattle.rules.specs.Layout.{places}
 use Rattle.rules.specs.Model.{Model}
 use Rattle.rules.specs.Calls.{used}
 use Rattle.dispatch.specs.Places.{Arguments}
@@ -14,8 +15,13 @@ use Rattle.dispatch.specs.Places.{Arguments}
 unfoldable pub fitsPlace : ℕ → ℕ → ℕ → ℕ → Bool
 fitsPlace classes n i x = cond (ltb i n) (ltb x classes) (eqb x 0)
 
--- the first n of these classes are the arguments that a send of f passes
+-- these classes are the numbers of a send of f, and the first n of them its arguments
 pub record Passes (M : Model) (f : ℕ) (tuple : List ℕ) (n : ℕ) (classes : List ℕ) : Type 0 where
+  pub whole : classes ≡ tuple
   pub within : n ≤ length classes
   pub same : take n classes ≡ used M f tuple
   pub arguments : Arguments M f (take n classes)
+
+-- nothing is passed
+abbrev pub PassesNone : ℕ → List ℕ → Type 0
+PassesNone n classes = (n ≡ 0) × (classes ≡ replicate places 0)

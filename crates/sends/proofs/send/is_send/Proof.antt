@@ -1,10 +1,10 @@
--- `calls::send::is_send` meets its contract: the function, then the places.
+-- `sends::send::is_send` meets its contract: the function, then the places.
 -- Assumes nothing.
 use borrow.Author.Needs.{needs}
 use mathlib.Core.Path.{sym, _∙_}
-use Rattle.calls.proofs.Sent.{absent-function, present-function}
-use Rattle.calls.proofs.send.is_send.Statement.{statement}
-use Rattle.calls.proofs.send.is_send.Tie as tie
+use Rattle.sends.proofs.Sent.{absent-function, present-function}
+use Rattle.sends.proofs.send.is_send.Statement.{statement}
+use Rattle.sends.proofs.send.is_send.Tie as tie
 
 returns-2 : tie.Need-returns-2
 returns-2 c =

@@ -1,4 +1,4 @@
--- `calls::send::classes_of` meets its contract: a send that keeps its rule passes classes that are there.
+-- `sends::send::classes_of` meets its contract: a send that keeps its rule passes classes that are there.
 -- Assumes nothing.
 use borrow.Author.Needs.{needs}
 use borrow.Author.Tests.{not-true, not-false}
@@ -6,9 +6,9 @@ use native.Mathlib.Omega.{arith}
 use mathlib.Core.Path.{refl, sym, _∙_}
 use mathlib.Core.Bool.{false≢true}
 use Rattle.dispatch.specs.Send.{tupleOf}
-use Rattle.calls.proofs.Sent.{kept}
-use Rattle.calls.proofs.send.classes_of.Statement.{statement}
-use Rattle.calls.proofs.send.classes_of.Tie as tie
+use Rattle.sends.proofs.Sent.{kept}
+use Rattle.sends.proofs.send.classes_of.Statement.{statement}
+use Rattle.sends.proofs.send.classes_of.Tie as tie
 
 arity-requires : tie.Need-arity-requires
 arity-requires c κs =
@@ -28,7 +28,7 @@ returns-2 c =
     let g = e .before .before .before in
     let sent = not-false _ (e .if1 .left) in
     let k = kept (g .pre) _ (tupleOf (g .args .send)) refl (sym (e .before .is-send .ensures) ∙ sent) in
-    (sym sent ∙ e .before .is-send .ensures, λ q. rw (c .before .arity .ensures .0, c .class-bytes .ensures) (k .passes))
+    (sym sent ∙ e .before .is-send .ensures, (λ q. rw (c .before .arity .ensures .0, c .class-bytes .ensures) (k .passes), λ q. absurd (false≢true (sym q))))
 
 pub classes-of-spec : {M : Type 1} → statement M
-classes-of-spec = tie.close (tie.spec (λ c κs. search needs) (λ c. (sym (not-true _ (c .if1 .taken)) ∙ c .before .is-send .ensures, λ e. absurd (false≢true e))) arity-requires class-bytes-requires returns-2)
+classes-of-spec = tie.close (tie.spec (λ c κs. search needs) (λ c. (sym (not-true _ (c .if1 .taken)) ∙ c .before .is-send .ensures, (λ e. absurd (false≢true e), λ e. (refl, refl)))) arity-requires class-bytes-requires returns-2)

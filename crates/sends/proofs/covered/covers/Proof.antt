@@ -1,11 +1,11 @@
--- `calls::covered::covers` meets its contract: the classes are compared with the signature's.
+-- `sends::covered::covers` meets its contract: the classes are compared with the signature's.
 -- Assumes nothing.
 use mathlib.Core.Path.{refl, sym, _∙_}
 use Rattle.rules.specs.Coverage as rules
 use Rattle.dispatch.proofs.Asked.{comparable, compared}
-use Rattle.calls.proofs.Signatures.{signature-present, signature-long}
-use Rattle.calls.proofs.covered.covers.Statement.{statement}
-use Rattle.calls.proofs.covered.covers.Tie as tie
+use Rattle.sends.proofs.Signatures.{signature-present, signature-long}
+use Rattle.sends.proofs.covered.covers.Statement.{statement}
+use Rattle.sends.proofs.covered.covers.Tie as tie
 
 each-under-requires : tie.Need-each-under-requires
 each-under-requires c κs =

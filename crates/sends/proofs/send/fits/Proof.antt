@@ -1,9 +1,9 @@
--- `calls::send::fits` meets its contract: a class where the place is used, else 0.
+-- `sends::send::fits` meets its contract: a class where the place is used, else 0.
 -- Assumes nothing.
 use borrow.Author.Tests.{lt-ltb, le-ltb}
-use Rattle.calls.specs.Send.{fitsPlace}
-use Rattle.calls.proofs.send.fits.Statement.{statement}
-use Rattle.calls.proofs.send.fits.Tie as tie
+use Rattle.sends.specs.Send.{fitsPlace}
+use Rattle.sends.proofs.send.fits.Statement.{statement}
+use Rattle.sends.proofs.send.fits.Tie as tie
 
 returns : tie.Need-returns
 unfolding fitsPlace

@@ -1,4 +1,4 @@
--- `calls::send::all_concrete` meets its contract. The loop's invariant: every class before i is concrete.
+-- `sends::send::all_concrete` meets its contract. The loop's invariant: every class before i is concrete.
 -- Assumes nothing.
 use borrow.Author.Needs.{needs}
 use borrow.Author.Tests.{not-true, not-false}
@@ -12,9 +12,9 @@ use Rattle.rules.specs.Bytes.{byte}
 use Rattle.rules.specs.Model.{modelOf}
 use Rattle.layout.proofs.Opened.{counts-of}
 use Rattle.dispatch.proofs.Asked.{class-below}
-use Rattle.calls.proofs.Sent.{concrete-decides}
-use Rattle.calls.proofs.send.all_concrete.Statement.{statement}
-use Rattle.calls.proofs.send.all_concrete.Tie as tie
+use Rattle.sends.proofs.Sent.{concrete-decides}
+use Rattle.sends.proofs.send.all_concrete.Statement.{statement}
+use Rattle.sends.proofs.send.all_concrete.Tie as tie
 
 abbrev Inv-loop : tie.InvT-loop
 Inv-loop bundle b args i₀ i = (i ≤ length args) × ((k : ℕ) → k < i → modelOf bundle .concrete (getD args k 0) ≡ true)

@@ -1,4 +1,4 @@
--- `calls::send::is_tuple` meets its contract. The loop's invariant: every place below i keeps the rule.
+-- `sends::send::is_tuple` meets its contract. The loop's invariant: every place below i keeps the rule.
 -- Assumes nothing.
 use borrow.Author.Needs.{needs}
 use borrow.Author.Tests.{not-true, not-false}
@@ -8,10 +8,10 @@ use native.Mathlib.Omega.{arith}
 use mathlib.Core.Path.{_≡_, sym, _∙_}
 use mathlib.Core.Bool.{true}
 use lib.ListN.{length, getD}
-use Rattle.calls.specs.Send.{fitsPlace}
-use Rattle.calls.proofs.Sent.{places-decides}
-use Rattle.calls.proofs.send.is_tuple.Statement.{statement}
-use Rattle.calls.proofs.send.is_tuple.Tie as tie
+use Rattle.sends.specs.Send.{fitsPlace}
+use Rattle.sends.proofs.Sent.{places-decides}
+use Rattle.sends.proofs.send.is_tuple.Statement.{statement}
+use Rattle.sends.proofs.send.is_tuple.Tie as tie
 
 abbrev Inv-loop : tie.InvT-loop
 Inv-loop classes n places i₀ i = (i ≤ length places) × ((k : ℕ) → k < i → fitsPlace classes n k (getD places k 0) ≡ true)

@@ -24,7 +24,7 @@ use Rattle.rules.proofs.Decides.{Decides}
 use Rattle.record_rules.proofs.Tests.{tuple-decides}
 use Rattle.dispatch.specs.Places.{InMatrix}
 use Rattle.dispatch.proofs.Asked.{class-below}
-use Rattle.calls.specs.Send.{fitsPlace, Passes}
+use Rattle.sends.specs.Send.{fitsPlace, Passes}
 
 -- the rule on the places, by place
 pub places-decides : (classes n : ℕ) (tuple : List ℕ) → Decides (tupleRule classes n tuple) (λ i. fitsPlace classes n i (getD tuple i 0)) (length tuple)
@@ -65,6 +65,7 @@ kept {b} {t} o f tuple l e =
       function = omega (arith, counts-of o .functions);
       passes =
           record {
+            whole = refl;
             within = omega (arith, l);
             same = refl;
             arguments =
