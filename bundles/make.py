@@ -52,6 +52,18 @@ def joined(*sections):
     return directory + b"".join(sections)
 
 
+# Where records state, as their last four bytes, the place of a part in another section: the section of these records, and their width.
+PARENTS, BODY = (0, 6), (4, 12)
+
+
+def moved(content, stated, record, later, longer):
+    """the bundle, but a class states that its parents, or a method that its body, begin so many bytes later and are so many longer"""
+    section, width = stated
+    at = struct.unpack_from("<H", content, 4 * section)[0] + width * record + width - 4
+    offset, length = struct.unpack_from("<HH", content, at)
+    return content[:at] + struct.pack("<HH", offset + later, length + longer) + content[at + 4:]
+
+
 ABSTRACT, CONCRETE = 0, 1
 CHART = [(ABSTRACT, []), (CONCRETE, [0]), (CONCRETE, [1]), (CONCRETE, [0]), (CONCRETE, [3]), (ABSTRACT, [0]), (CONCRETE, [5]), (CONCRETE, [5])]
 CHART_METHODS = [(0, args, args, result, [(NEW, result)]) for args, result in [([1, 4], 6), ([2, 3], 7), ([1, 3], 6), ([2, 4], 7)]]
@@ -121,6 +133,9 @@ FURTHER = {
     "129-classes": bundle(ALONE + [(CONCRETE, [0])] * 128),
     "two-roots": bundle(ALONE + [(CONCRETE, [])]),
     "leftover-parent": joined(CLASS + bytes([CONCRETE, 0, 0, 0, 1, 0]), bytes([0, 0]), b"", b"", b"", b""),
+    # The list and the body that begin late are lawful in themselves, and end where they should.
+    "late-list": moved(bundle(ALONE + [(CONCRETE, [0]), (CONCRETE, [0, 1])]), PARENTS, 2, 1, -1),
+    "late-body": moved(bundle(ALONE, [0, 0], [], [(0, [], [], 0, [(NEW, 0)]), (1, [], [], 0, [(NEW, 0)] * 2)]), BODY, 1, 2, -2),
     "unused-place-filled": bundle(ALONE + [(CONCRETE, [0])], [1], [(0, [0, 1], 0)], [(0, [0], [0], 0, [(ARG, 0)])]),
     "absent-specialiser": bundle(ALONE, [1], [], [(0, [1], [0], 0, [(NEW, 0)])]),
     "absent-argument": bundle(ALONE, [1], [(0, [0], 0)], [(0, [0], [0], 0, [(ARG, 1)])]),
@@ -204,6 +219,9 @@ SHOWN = {
     "leftover-parent": (
         "refused by 4: the parents section goes on after the last class's list",
         ["refused 4 record 1"]),
+    "late-list": (
+        "refused by 4: the list of class 2 begins a byte after that of class 1 ends",
+        ["refused 4 record 2"]),
     "four-arguments": (
         "refused by 5: function 1 has four arguments",
         ["refused 5 record 1"]),
@@ -219,6 +237,9 @@ SHOWN = {
     "absent-specialiser": (
         "refused by 7: the method's specialiser is not there",
         ["refused 7 record 0"]),
+    "late-body": (
+        "refused by 7: the body of method 1 begins an instruction after that of method 0 ends",
+        ["refused 7 record 1"]),
     "twin-methods": (
         "refused by 8: two methods of one function have equal specialisers",
         ["refused 8 record 1"]),

@@ -27,7 +27,7 @@ from earlier import entries, write_current  # noqa: E402
 from made import write_or_check  # noqa: E402
 from rules import (  # noqa: E402
     ABSENT, ASKED, CLASSES, FUNCTIONS, LONGEST, MATRIX, METHODS, PLACES, SHORT, SHORT_ROW, SIGNATURES, arity_of, asked, chart_line, chart_lines,
-    instruction, is_covered, opening, reading, refused, view)
+    instruction, is_covered, opening, reading, refused, spans, view)
 from stream import ROW, SCRATCH, SCRATCHED, Call, ended, one, reply, stream_of, tally  # noqa: E402
 
 MOST = 2**32 - 1
@@ -39,6 +39,16 @@ MOST = 2**32 - 1
 def chain(count):
     """classes of one parent each"""
     return [(make.CONCRETE, [k - 1] if k else []) for k in range(count)]
+
+
+def flat(count):
+    """concrete classes that have class 0 as their one parent"""
+    return [(make.CONCRETE, [0] if k else []) for k in range(count)]
+
+
+def of_methods(classes, arities, signatures, methods):
+    """a bundle whose methods, each a function with specialisers and declared classes, make an object of the last class"""
+    return make.bundle(classes, arities, signatures, [(*own, 0, [(make.NEW, len(classes) - 1)]) for own in methods])
 
 
 def at_limits(classes, filled=0):
@@ -86,6 +96,185 @@ def longest():
     return long, too_long
 
 
+def of_two_instructions():
+    """a bundle at the limits whose bodies have two instructions each"""
+    *others, methods = at_limits(chain(CLASSES))
+    return make.bundle(*others, [(*own, 2 * body) for *own, body in methods])
+
+
+def moved_lists():
+    """(bundle, class, bytes later, bytes longer, class that is named) for a list that is said to be where it is not. Unless a comment says otherwise it
+    is lawful there, and only the lengths before it tell"""
+    in_chain, in_flat = make.bundle(chain(CLASSES)), make.bundle(flat(CLASSES))
+    of_two = make.bundle(flat(2) + [(make.CONCRETE, [0, k - 1]) for k in range(2, CLASSES)])
+    by_turns = make.bundle(flat(2) + [(make.CONCRETE, [k % 2]) for k in range(2, CLASSES)])
+    last = CLASSES - 1
+    # The empty list and the one behind it: a byte late; a byte early modulo 65,536, which is outside.
+    for k, later in itertools.product([0, 1], [1, LONGEST]):
+        yield in_flat, k, later, 0, k
+    for k in [2, 64, last]:
+        # A byte late and early, as long as before: the last one passes the section, or leaves a byte over.
+        yield in_flat, k, 1, 0, k
+        yield in_chain, k, -1, 0, k
+        # The same with the end that it had.
+        yield of_two, k, 1, -1, k
+        yield in_chain, k, -1, 1, k
+    # A parent too many, taken from the next list, which then begins early.
+    for k in [2, 64, last - 1]:
+        yield by_turns, k, 0, 1, k + 1
+    # One that is not lower, or is outside.
+    for k in [1, 64, last]:
+        yield in_chain, k, 0, 1, k
+    # A parent too few, so that the next list begins late; at the last one it is left over; elsewhere none is left.
+    for k in [2, 64, last - 1, last]:
+        yield of_two, k, 0, -1, min(k + 1, last)
+    yield in_chain, 64, 0, -1, 64
+    # Lengths that come to 65,535, outside.
+    for k in [64, last]:
+        yield in_chain, k, 0, LONGEST - k, k
+    # A byte early, with one parent; a byte late, with the end that it had.
+    long, _ = longest()
+    yield long, 64, -1, -63, 64
+    yield long, last, 1, -1, last
+
+
+def moved_bodies():
+    """(bundle, method, bytes later, bytes longer, method that is named), as moved_lists"""
+    of_two, last = of_two_instructions(), METHODS - 1
+    # The first one cannot be early but modulo 65,536, which is outside.
+    for later, longer in [(1, 0), (LONGEST, 0), (2, -2)]:
+        yield of_two, 0, later, longer, 0
+    for m in [1, 256, last]:
+        # By a byte and as long as before; by an instruction, with the end that it had.
+        for later, longer in [(1, 0), (-1, 0), (2, -2), (-2, 2)]:
+            yield of_two, m, later, longer, m
+    # An instruction too many or too few, so that the next body is early or late; the last one passes the section, or leaves an instruction over.
+    for m, longer in itertools.product([0, 256, last], [2, -2]):
+        yield of_two, m, 0, longer, min(m + 1, last)
+    # A body of 130 bytes, an empty one, and lengths that come to 65,535.
+    for m, longer in [(0, 2), (256, -2), (last, LONGEST - 126 - 2 * METHODS)]:
+        yield make.bundle(*at_limits(chain(CLASSES), 63)), m, 0, longer, m
+    long, _ = longest()
+    yield long, 256, 1, 0, 256
+    yield long, last, -2, 2, last
+
+
+def moved_together():
+    """(bundle, moves, number, record) for several lists or bodies at once"""
+    parents, body = make.PARENTS, make.BODY
+    in_chain, of_two = make.bundle(chain(CLASSES)), of_two_instructions()
+    last, last_method = CLASSES - 1, METHODS - 1
+    # The lower one is named, and a class before any method.
+    yield in_chain, [(parents, last, -1, 1), (parents, 64, -1, 1)], 4, 64
+    yield of_two, [(body, last_method, -2, 2), (body, 256, -2, 2)], 7, 256
+    yield of_two, [(body, 0, 2, -2), (parents, last, -1, 1)], 4, last
+    # All lengths together come right, but not those before the body between the two.
+    yield of_two, [(body, 256, 0, 2), (body, 258, 0, -2)], 7, 257
+    # One passes the section and the next is placed modulo 65,536, so that it ends the section. What the section has of the two lists is lawful.
+    for k in [3, last - 1]:
+        wrapping = make.bundle(flat(k) + [(make.CONCRETE, [1]), (make.CONCRETE, [2])])
+        yield wrapping, [(parents, k, 0, LONGEST - 1), (parents, k + 1, -2, 2)], 4, k
+    yield of_two, [(body, last_method - 1, 0, LONGEST - 5), (body, last_method, -6, 6)], 7, last_method - 1
+
+
+def out_of_place():
+    """(bundle, number, record) for lists and bodies that do not follow each other, or that pass their section or do not fill it"""
+    for stated, number, moves in [(make.PARENTS, 4, moved_lists()), (make.BODY, 7, moved_bodies())]:
+        for bundle, *move, named in moves:
+            yield make.moved(bundle, stated, *move), number, named
+    for bundle, moves, number, named in moved_together():
+        for move in moves:
+            bundle = make.moved(bundle, *move)
+        yield bundle, number, named
+    # Bodies of 128 bytes each: 16 fill the section. All have 65,536 bytes, which modulo that number is an empty section.
+    bundle = of_two_instructions()
+    for m in range(METHODS):
+        bundle = make.moved(bundle, make.BODY, m, 124 * m, 124)
+    yield bundle, 7, 16
+    yield make.joined(*(bundle[at:at + length] for at, length in spans(bundle)[:-1]), b""), 7, 0
+    # A class above 0 without a parent, the lists behind its own where they then have to be.
+    for k in [1, 64, CLASSES - 1]:
+        classes = chain(CLASSES)
+        classes[k] = (make.CONCRETE, [])
+        yield make.bundle(classes), 4, k
+    # The first list that is not empty begins a byte late and ends the section.
+    yield make.moved(make.bundle([(make.CONCRETE, []), (make.CONCRETE, [0, 0])]), make.PARENTS, 1, 1, -1), 4, 1
+    yield make.FURTHER["late-list"], 4, 2
+    yield make.FURTHER["late-body"], 7, 1
+
+
+def bucket(function, places):
+    """a method is compared only with those that have the same number here (crate twin_rule)"""
+    return int.from_bytes(bytes([function]) + make.padded(places), "little") % 521
+
+
+def in_bucket(number):
+    """specialisers in one bucket, all different, for as many methods of function 0 as there may be"""
+    every = itertools.product(range(CLASSES), repeat=PLACES)
+    return list(itertools.islice((places for places in every if bucket(0, places) == number), METHODS))
+
+
+def applying(classes, arities, methods):
+    """a bundle of these methods, each a function with specialisers"""
+    return of_methods(flat(classes), arities, [], [(f, places, places) for f, places in methods])
+
+
+def twinned(classes, specialisers, *pairs):
+    """a bundle of methods of one function; the second of each pair has the specialisers of the first"""
+    places = list(specialisers)
+    for earlier, later in pairs:
+        places[later] = places[earlier]
+    return applying(classes, [len(places[0])], [(0, own) for own in places])
+
+
+def twins():
+    """(bundle, number, values) for methods that are twins, and for methods that are not but share a bucket, a function or specialisers"""
+    last = METHODS - 1
+    cube = list(itertools.product(range(8), repeat=PLACES))
+    yield twinned(8, cube, (0, 1)), 8, [1]
+    yield twinned(8, cube, (0, last)), 8, [last]
+    yield twinned(8, cube, (last - 1, last)), 8, [last]
+    # Of three twins the second.
+    yield twinned(8, cube, (0, 256), (0, last)), 8, [256]
+    # Of two pairs the one whose later method is lower. Method 0 is in the lowest bucket.
+    yield twinned(8, cube, (0, last), (300, 301)), 8, [301]
+    yield twinned(8, cube, (0, 301), (300, last)), 8, [301]
+    # As many methods in one bucket as there may be.
+    for number in [0, 520]:
+        yield twinned(CLASSES, in_bucket(number)), 0, [CLASSES, 1, 0, METHODS]
+        yield twinned(CLASSES, in_bucket(number), (0, last)), 8, [last]
+    yield twinned(CLASSES, in_bucket(0), (last - 1, last)), 8, [last]
+    yield twinned(CLASSES, in_bucket(0), (0, last), (255, 256)), 8, [256]
+    # A few in one bucket, of one function and of two.
+    few = [(0, 0, 0), (9, 2, 0), (0, 9, 2)]
+    two = [(0, (0,)), (9, (2,))]
+    assert {bucket(0, places) for places in few} == {bucket(*own) for own in two} == {0}
+    yield twinned(10, few), 0, [10, 1, 0, 3]
+    yield applying(3, [1] * 10, two), 0, [3, 10, 0, 2]
+    for places in few:
+        yield twinned(10, [*few, places]), 8, [3]
+    for own in two:
+        yield applying(3, [1] * 10, [*two, own]), 8, [2]
+    # The same specialisers for every function; the same bytes for functions of no argument to three.
+    every = [(f, (c,)) for c in range(8) for f in range(FUNCTIONS)]
+    yield applying(8, [1] * FUNCTIONS, every), 0, [8, FUNCTIONS, 0, METHODS]
+    yield applying(1, range(PLACES + 1), [(f, (0,) * f) for f in range(PLACES + 1)]), 0, [1, PLACES + 1, 0, PLACES + 1]
+    # Fewer arguments than three: two, one, none.
+    yield twinned(23, list(itertools.product(range(23), repeat=2))[:METHODS], (0, last)), 8, [last]
+    yield twinned(10, [(0, 0), (9, 2), (0, 0)]), 8, [2]
+    yield applying(8, [1] * FUNCTIONS, [*every[:-1], every[FUNCTIONS - 1]]), 8, [last]
+    for f in [0, FUNCTIONS - 1]:
+        yield applying(1, [0] * FUNCTIONS, [(g, ()) for g in [*range(FUNCTIONS), f]]), 8, [FUNCTIONS]
+    # Twins that differ in all else; methods that differ in their specialisers alone.
+    yield make.bundle(flat(2), [1], [], [(0, [0], [0], 0, [(make.NEW, 0)]), (0, [0], [1], 1, [(make.ARG, 0)] * 2)]), 8, [1]
+    yield make.bundle(flat(2), [1], [], [(0, [c], [0], 0, [(make.NEW, 0)]) for c in range(2)]), 0, [2, 1, 0, 2]
+    # 7 comes before 8, whatever bytes the methods have, and 8 before 9.
+    twin, body = (0, [0], [0]), [(make.NEW, 0)]
+    yield make.bundle(flat(1), [1], [], [(*twin, 0, body), (*twin, 0, body), (*twin, 1, body)]), 7, [2]
+    yield make.joined(make.CLASS, b"", b"\0", b"", b"\xff" * 12 * METHODS, b"\0\0"), 7, [0]
+    yield make.bundle(flat(1), [1], [], [(*twin, 0, [(3, 0)]), (*twin, 0, body)]), 8, [1]
+
+
 def of_the_rules():
     """(bundle, number, values) for the cases of the rules that opening answers, and for bundles at the limits"""
     alone = make.SAMPLES["one-class"]
@@ -99,13 +288,9 @@ def of_the_rules():
     yield long, 0, [CLASSES, FUNCTIONS, SIGNATURES, METHODS]
     yield too_long, 1, []
     yield make.bundle(*at_limits(chain(CLASSES))), 0, [CLASSES, FUNCTIONS, SIGNATURES, METHODS]
-    for bundle, number, record in broken_at_the_last_record():
+    for bundle, number, record in itertools.chain(broken_at_the_last_record(), out_of_place()):
         yield bundle, number, [record]
-
-
-def flat(count):
-    """concrete classes that have class 0 as their one parent"""
-    return [(make.CONCRETE, [0] if k else []) for k in range(count)]
+    yield from twins()
 
 
 def most_tuples(last):
@@ -126,11 +311,6 @@ def most_methods():
 def chained(places):
     """the same tuples over a chain of classes, with a method for each of the given specialisers, most of which apply to most tuples"""
     return make.bundle(chain(CLASSES), [PLACES], [(0, [0] * PLACES, 0)], [(0, own, own, 0, [(make.NEW, 0)]) for own in places])
-
-
-def of_methods(classes, arities, signatures, methods):
-    """a bundle whose methods, each a function with specialisers and declared classes, make an object of the last class"""
-    return make.bundle(classes, arities, signatures, [(*own, 0, [(make.NEW, len(classes) - 1)]) for own in methods])
 
 
 def leaving_out():
@@ -199,7 +379,7 @@ def held(bundle, answer, second):
 
 
 # The later parts of the rules that have vectors of their own, beside those of the folder itself.
-LATER = ["requests/01", "requests/02", "requests/03"]
+LATER = ["requests/01", "requests/02", "requests/03", "requests/04"]
 
 
 def vectors(folder, name):

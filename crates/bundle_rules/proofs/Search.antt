@@ -1,13 +1,11 @@
--- What a search for the lowest broken record finds, and how far the lengths before a record add up.
+-- What a search for the lowest broken record finds, and how many records there are for a rule.
 -- Assumes nothing.
-use Prim.Native.Nat.{ℕ, _+_, _<_, _≤_}
-use native.Mathlib.Numerals.{add-one}
+use Prim.Native.Nat.{ℕ, _<_, _≤_}
 use native.Mathlib.Omega.{arith}
 use mathlib.Core.Path.{_≡_, sym, ap}
 use mathlib.Core.Bool.{Bool, true, false, not}
 use mathlib.Core.List.{List}
 use mathlib.Core.Option.{some}
-use Rattle.rules.specs.Bounded.{sum}
 use Rattle.rules.specs.Layout.{lowest, maxMethods}
 use Rattle.rules.proofs.Lists.{some-lowest}
 use Rattle.bundle_rules.specs.declared.finding.Rule as rule-type
@@ -19,10 +17,6 @@ use Rattle.layout.specs.Tables.{Placed}
 pub broken-found : (rule : ℕ → Bool) (n k : ℕ) → k < n → rule k ≡ false → ((j : ℕ) → j < k → rule j ≡ true) → some k ≡ lowest rule n
 unfolding lowest
 broken-found rule n k l e h = sym (some-lowest (λ j. not (rule j)) n k l (ap not e) (λ j i. ap not (h j i)))
-
-pub sum-next : (f : ℕ → ℕ) (k : ℕ) → sum f (k + 1) ≡ sum f k + f k
-unfolding sum
-sum-next f k = rw (add-one k)
 
 -- no rule is for more records than there may be methods
 pub count-limit : (rule : rule-type.Rule) {b : List ℕ} {t : Bundle} → Placed b t → countOf rule b ≤ maxMethods

@@ -8,6 +8,7 @@ use crate::limits::within_limits;
 use crate::lowest::Lowest;
 use crate::lowest::lowest_broken;
 use layout::bundle::Bundle;
+use twin_rule::chain::chain_methods;
 ghost use mathlib.Core.Path.{_≡_};
 ghost use Prim.Native.Nat.{_<_};
 ghost use lib.ListN.{length, getD};
@@ -38,10 +39,11 @@ fn records_opening(bytes: &[u8], b: Bundle) -> Opening
     requires { ⌜ Placed (now bytes) b ⌝ }
     ensures { λ r. ⌜ (said r ≡ openingBy order (now (bytes .entry))) × TablesOf (now (bytes .entry)) r ⌝ }
 {
+    let chains = chain_methods(bytes, b);
     let mut i = 0;
     while i < RULES {
         let rule = rule_at(i);
-        if let Lowest::At(k) = lowest_broken(bytes, b, rule) {
+        if let Lowest::At(k) = lowest_broken(bytes, b, &chains, rule) {
             return Opening::Refused(LayoutFinding::Record(rule, k));
         }
         i += 1;

@@ -6,15 +6,10 @@ use mathlib.Core.Path.{_≡_, refl}
 use mathlib.Core.Bool.{Bool, true, false, not, Bool·beq}
 use mathlib.Core.List.{List}
 use borrow.Author.Tests.{leb-true, ltb-true, eqb-true}
-use Rattle.rules.specs.Bounded.{sum}
-use Rattle.rules.specs.Layout.{extent, sequenceRule, functionOf, functionCount, bodyOffset, bodyLength, methodCount, methodRule}
+use Rattle.rules.specs.Layout.{extent, functionOf, functionCount, bodyOffset, bodyLength, methodCount, methodRule}
+use Rattle.rules.specs.Running.{inSequence}
 use Rattle.rules.proofs.Lists.{and-left, and-right}
 use Rattle.rules.proofs.Places.{sequence-fits, method-sequence}
-use Rattle.record_rules.specs.Tests.{inSequence}
-
-pub in-sequence : (start size : ℕ → ℕ) (n end k : ℕ) → sequenceRule start size n end k ≡ inSequence (start k) (size k) (sum size k) n end k
-unfolding sequenceRule inSequence
-in-sequence start size n end k = refl
 
 pub in-sequence-fits : (start size before n end k : ℕ) → inSequence start size before n end k ≡ true → start + size ≤ end
 unfolding inSequence

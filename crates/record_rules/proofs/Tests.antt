@@ -2,19 +2,18 @@
 -- Assumes nothing.
 use Prim.Native.Nat.{ℕ, zero, suc, _+_, _*_, _-_, _<_, _≤_}
 use native.Mathlib.Omega.{arith}
-use mathlib.Core.Path.{_≡_, refl, sym, ap, subst, _∙_}
-use mathlib.Core.Bool.{Bool, true, false, not, _||_, true≢false, and-assoc}
+use mathlib.Core.Path.{_≡_, refl, sym, subst}
+use mathlib.Core.Bool.{Bool, true, _||_, and-assoc}
 use mathlib.Core.List.{List, [], _∷_}
 use lib.Dec.{eqb, ltb, leb·suc-suc}
 use lib.ListN.{length, getD}
-use borrow.Author.Tests.{lt-ltb, le-ltb, ne-eqb, not-true, not-false}
-use Rattle.rules.specs.Bounded.{upto, every, matching}
+use borrow.Author.Tests.{lt-ltb, le-ltb, ne-eqb}
+use Rattle.rules.specs.Bounded.{every}
 use Rattle.rules.specs.Bytes.{part}
-use Rattle.rules.specs.Layout.{tupleRule, risesAbove, rises, everyPair, instructionRule, twins, twinRule}
-use Rattle.rules.proofs.Lists.{any-none, any-from, matching-from, matching-at, upto-below, below-upto}
+use Rattle.rules.specs.Layout.{tupleRule, risesAbove, rises, everyPair, instructionRule}
 use Rattle.rules.proofs.Places.{part-at, part-length}
-use Rattle.rules.proofs.Decides.{Decides, refuted, decides-none, decides-next, decides-agree, decides-both, every-decides}
-use Rattle.record_rules.specs.Tests.{from, parentsRule, parentRule, placeRule, pairRule}
+use Rattle.rules.proofs.Decides.{Decides, decides-none, decides-next, decides-agree, decides-both, every-decides}
+use Rattle.record_rules.specs.Tests.{from, parentsRule, parentRule, placeRule, pairRule, entryOf, Limits, byLimits}
 
 -- a list whose elements are each above the one before
 above-decides : (x : ℕ) (xs : List ℕ) → Decides (risesAbove x xs) (λ i. ltb (getD (x ∷ xs) i 0) (getD xs i 0)) (length xs)
@@ -92,33 +91,11 @@ module _ (b : List ℕ) (at : ℕ) where
       (λ i l. rw (part-at b at (2 * k) (2 * i) (omega arith), part-at b at (2 * k) (2 * i + 1) (omega arith)))
       (pairs-decides p k xs (part-length b at (2 * k) h))
 
-  pub matching-part : (other n : ℕ) → at + n ≤ length b → other + n ≤ length b
-      → Decides (matching eqb (part b at n) (part b other n)) (λ i. eqb (from b at i) (from b other i)) n
-  matching-part other n h k =
-      let xs = part b at n in
-      let ys = part b other n in
-      let same : length xs ≡ length ys = part-length b at n h ∙ sym (part-length b other n k) in
-      let long : length xs ≡ n = part-length b at n h in
-      decides-agree (λ i. eqb (getD xs i 0) (getD ys i 0)) (λ i. eqb (from b at i) (from b other i)) n
-      (λ i l. rw (part-at b at n i l, part-at b other n i l))
-      (record {
-        holds = λ all. matching-from eqb xs ys 0 0 same (λ i l. all i (omega arith));
-        breaks = λ i l e. refuted (matching eqb xs ys) (λ t. true≢false (sym (matching-at eqb xs ys 0 0 t i (omega arith)) ∙ e));
-      })
-
-pub unknown-operation : (arguments classes functions operation operand : ℕ) → (operation ≡ 0 → ⊥) → (operation ≡ 1 → ⊥) → (operation ≡ 2 → ⊥)
-    → instructionRule arguments classes functions operation operand ≡ false
-unfolding instructionRule
-unknown-operation arguments classes functions zero operand a b c = absurd (a refl)
-unknown-operation arguments classes functions (suc zero) operand a b c = absurd (b refl)
-unknown-operation arguments classes functions (suc (suc zero)) operand a b c = absurd (c refl)
-unknown-operation arguments classes functions (suc (suc (suc n))) operand a b c = refl
-
--- a twin among the methods before
-pub twin-decides : (b : List ℕ) (m : ℕ) → Decides (twinRule b m) (λ n. not (twins b m n)) m
-unfolding twinRule
-twin-decides b m =
-    record {
-      holds = λ h. ap not (any-none (twins b m) (upto m) (λ n r. not-true (twins b m n) (h n (upto-below m r))));
-      breaks = λ n l e. ap not (any-from (twins b m) (upto m) (below-upto m n l) (not-false (twins b m n) e));
-    }
+-- an instruction keeps the rule exactly when its operand is below the limit of its operation
+pub limit-decides : (limits : List ℕ) → Limits limits → (operation operand : ℕ) → byLimits limits operation operand ≡ ltb operand (getD limits (entryOf operation) 0)
+unfolding instructionRule entryOf
+limit-decides limits l zero operand = refl
+limit-decides limits l (suc zero) operand = refl
+limit-decides limits l (suc (suc zero)) operand = refl
+limit-decides limits l (suc (suc (suc n))) operand =
+    rw (le-ltb (suc (suc (suc n))) 3 (omega arith), l .others) (sym (le-ltb operand 0 (omega arith)))

@@ -1,21 +1,18 @@
 -- What each search of the code asks of one number: the parts of the rules that are about one place of a list.
 -- Assumes nothing.
-use Prim.Native.Nat.{ℕ, suc, _+_, _-_, _*_, _%_}
+use Prim.Native.Nat.{ℕ, _+_, _-_, _*_, _%_}
+use mathlib.Core.Path.{_≡_}
 use mathlib.Core.Bool.{Bool, cond, _&&_, _||_}
 use mathlib.Core.List.{List}
 use lib.Dec.{eqb, ltb, leb}
+use lib.ListN.{length, getD}
 use Rattle.rules.specs.Bounded.{every}
 use Rattle.rules.specs.Bytes.{byte}
-use Rattle.rules.specs.Layout.{extent, codeSection, rises, sequenceRule, bodyOffset, bodyLength, methodCount}
+use Rattle.rules.specs.Layout.{extent, codeSection, instructionRule, rises, sequenceRule, bodyOffset, bodyLength, methodCount}
 
 -- the bytes from a place on, by number
 abbrev pub from : List ℕ → ℕ → ℕ → ℕ
 from b at i = byte b (at + i)
-
--- `sequenceRule` of one record, where those before it end at `before`
-unfoldable pub inSequence : ℕ → ℕ → ℕ → ℕ → ℕ → ℕ → Bool
-inSequence start size before n end k =
-    eqb start before && leb (start + size) end && (ltb (suc k) n || eqb (start + size) end)
 
 -- a parent is lower than its class, and above the parent before it (M 2.4)
 abbrev pub parentsRule : ℕ → List ℕ → Bool
@@ -40,3 +37,18 @@ bodyRule b m =
 -- `everyPair` of pair i
 abbrev pub pairRule : (ℕ → ℕ) → (ℕ → ℕ → Bool) → ℕ → Bool
 pairRule f p i = p (f (2 * i)) (f (2 * i + 1))
+
+-- What the operands of a body stay below, by operation: argument places, classes and functions, and 0 for every other operation.
+abbrev pub entries : ℕ
+entries = 4
+
+unfoldable pub entryOf : ℕ → ℕ
+entryOf operation = cond (ltb operation 3) operation 3
+
+pub record Limits (limits : List ℕ) : Type 0 where
+  pub long : length limits ≡ entries
+  pub others : getD limits 3 0 ≡ 0
+
+-- `instructionRule` with these limits
+abbrev pub byLimits : List ℕ → ℕ → ℕ → Bool
+byLimits limits = instructionRule (getD limits 0 0) (getD limits 1 0) (getD limits 2 0)

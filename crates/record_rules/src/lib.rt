@@ -6,4 +6,3 @@ pub mod method;
 mod sequence;
 pub mod signature;
 mod tuple;
-pub mod twin;

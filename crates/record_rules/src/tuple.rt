@@ -4,9 +4,7 @@ use layout::bytes::byte_at;
 ghost use mathlib.Core.Path.{_≡_};
 ghost use mathlib.Core.Bool.{not};
 ghost use Prim.Native.Nat.{_+_, _<_, _≤_};
-ghost use lib.Dec.{eqb};
 ghost use lib.ListN.{length};
-ghost use Rattle.rules.specs.Bounded.{matching};
 ghost use Rattle.rules.specs.Bytes.{part};
 ghost use Rattle.rules.specs.Layout.{places, tupleRule};
 ghost use Rattle.record_rules.specs.Tests.{from, placeRule};
@@ -36,20 +34,4 @@ pub(crate) fn tuple_breaks(bytes: &[u8], at: usize, n: usize, classes: usize) ->
         i += 1;
     }
     false
-}
-
-// Whether the places from one byte on are those from another on.
-pub(crate) fn same_tuple(bytes: &[u8], at: usize, other: usize) -> bool
-    requires { ⌜ at + places ≤ length (now bytes) ⌝ }
-    requires { ⌜ other + places ≤ length (now bytes) ⌝ }
-    ensures { λ r. ⌜ r ≡ matching eqb (part (now (bytes .entry)) at places) (part (now (bytes .entry)) other places) ⌝ }
-{
-    let mut i = 0;
-    while i < Bundle::PLACES {
-        if byte_at(bytes, at + i) != byte_at(bytes, other + i) {
-            return false;
-        }
-        i += 1;
-    }
-    true
 }

@@ -3,6 +3,7 @@ pub mod Decides
 pub mod Order
 pub mod Opening
 pub mod Places
+pub mod Running
 pub mod Wellformed
 pub mod Subclass
 pub mod Selection

@@ -1,6 +1,7 @@
 pub mod Bounded
 pub mod Bytes
 pub mod Layout
+pub mod Running
 pub mod Model
 pub mod Subclass
 pub mod Lookup

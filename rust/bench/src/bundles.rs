@@ -1,6 +1,6 @@
 //! The bundles that are measured.
 
-use builder::{tree, widest_chart, Parts, Random, ARG, NEW, SEND};
+use builder::{bucket, tree, widest_chart, Parts, Random, ARG, NEW, SEND};
 
 /// As many records as the limits allow, and bodies to fill 65,535 bytes. It is accepted. A function has arguments and
 /// results in one of the eight parts that depth 3 divides the tree into, and its bodies send functions of that part.
@@ -41,6 +41,14 @@ pub fn largest() -> Vec<u8> {
     }
     let bytes = parts.bytes();
     assert_eq!(bytes.len(), 65_535);
+    bytes
+}
+
+/// The largest bundle with one fault, at its end: the last byte, which is the operand of the last method's last instruction, is
+/// too high for any operation.
+pub fn largest_broken() -> Vec<u8> {
+    let mut bytes = largest();
+    bytes[65_534] = 255;
     bytes
 }
 
@@ -113,6 +121,19 @@ pub fn many_methods(broken: bool) -> Vec<u8> {
                 break 'full;
             }
         }
+    }
+    assert_eq!(parts.methods.len(), 512);
+    parts.bytes()
+}
+
+/// 512 methods that the library puts into one bucket, so that each is compared with all before it. They are of one function, so
+/// that no comparison ends there.
+pub fn one_bucket() -> Vec<u8> {
+    let mut parts = flat();
+    let function = parts.function(3);
+    let triples = (0..128).flat_map(|a| (0..128).flat_map(move |b| (0..128).map(move |c| [a, b, c])));
+    for [a, b, c] in triples.filter(|&[a, b, c]| bucket([function, a, b, c]) == 0).take(512) {
+        parts.method(function, [a, b, c], 0, &[[NEW, 0]]);
     }
     assert_eq!(parts.methods.len(), 512);
     parts.bytes()

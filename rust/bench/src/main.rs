@@ -34,7 +34,10 @@ fn main() {
 
 fn cases() -> Vec<Case> {
     vec![
-        open_case("open the largest bundle, 65,535 bytes", bundles::largest()),
+        open_case("open the largest bundle, 65,535 bytes", bundles::largest(), (0, 128)),
+        open_case("open the largest bundle, last operand too high", bundles::largest_broken(), (9, 511)),
+        open_case("open 512 methods of one function", bundles::many_methods(false), (0, 128)),
+        open_case("open 512 methods of one function, all in one bucket", bundles::one_bucket(), (0, 128)),
         ancestry_case("ancestry: 128 classes of three parents", bundles::classes()),
         lookup_case("lookup among 512 methods", bundles::many_methods(false), next, 0),
         lookup_case("lookup among 512 methods that all apply, ambiguous", bundles::rivals_in_the_middle(), last, 11),
@@ -58,14 +61,14 @@ fn cases() -> Vec<Case> {
     ]
 }
 
-fn open_case(name: &'static str, bundle: Vec<u8>) -> Case {
+fn open_case(name: &'static str, bundle: Vec<u8>, (number, first): (u8, u64)) -> Case {
     let [a, b, c] = [bundle.clone(), bundle.clone(), bundle];
     Case {
         name,
         library: Box::new(move || by_library(|values| raw::open(black_box(&a), values))),
         plain: Some(Box::new(move || by_plain(plain::open(black_box(&b))))),
         fast: Some(Box::new(move || by_library(|values| fast::open(black_box(&c), values)))),
-        expected: (0, Some(128)),
+        expected: (number, Some(first)),
     }
 }
 

@@ -113,6 +113,14 @@ fn two_bytes(number: usize) -> [u8; 2] {
     (number as u16).to_le_bytes()
 }
 
+/// Into how many buckets the library puts methods to look for twins.
+pub const BUCKETS: usize = 521;
+
+/// The bucket of a method by its key, which is its function and its three specialisers. Twins have one key.
+pub fn bucket(key: [u8; 4]) -> usize {
+    u32::from_le_bytes(key) as usize % BUCKETS
+}
+
 /// The bytes as a word of hexadecimal digits.
 pub fn hex(bytes: &[u8]) -> String {
     bytes.iter().map(|byte| format!("{byte:02x}")).collect()

@@ -1,5 +1,6 @@
 //! Calls, made on both implementations with the same bytes in every buffer.
 
+use crate::opening;
 use crate::rivals::beaten_and_rivals;
 use crate::tally::Tally;
 use builder::{hex, Parts, Random};
@@ -222,6 +223,9 @@ impl Comparer {
         if expected.number == 0 && matches!(call, Call::Run(..) | Call::RunAccepted(..)) {
             self.tally.count_run(expected.values);
         }
+        if matches!(call, Call::Open) {
+            self.count_opening(bundle, expected.number, expected.values[0] as usize);
+        }
         if expected.number == 11 {
             let (beaten, rivals) = beaten_and_rivals(bundle, buffers[0].part(), call.sent(expected.values));
             self.tally.count_rivals(&beaten, &rivals);
@@ -250,6 +254,16 @@ impl Comparer {
             println!("  plain gives {} {:?}", expected.number, expected.values);
             println!("  the library gives {number} {values:?}");
             println!("  bundle {}", hex(bundle));
+        }
+    }
+
+    /// Counts what an opening that gave the number, and the record with it, had to tell apart.
+    fn count_opening(&mut self, bundle: &[u8], number: u8, record: usize) {
+        match number {
+            0 => self.tally.count_buckets(opening::fullest_bucket(bundle)),
+            4 | 7 => self.tally.count_misplaced(number, opening::off_by_one(bundle, number, record)),
+            8 => self.tally.count_twins(opening::beside_twins(bundle, record)),
+            _ => {}
         }
     }
 

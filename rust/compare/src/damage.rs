@@ -1,23 +1,32 @@
 //! Bundles that need not open: damaged ones, and ones that break a limit.
 
-use crate::generate;
+use crate::sections::{section, two_bytes, CLASSES, METHODS};
+use crate::{generate, long};
 use builder::{Parts, Random, NEW};
 
 /// A bundle, and the parts it was made from. Half of the bundles are damaged.
 pub fn bundle(random: &mut Random, number: usize) -> (Vec<u8>, Parts) {
+    if number % 20 == 9 {
+        return long_bundle(random);
+    }
     let mut parts = generate::parts(random, number);
-    match random.below(20) {
-        0..=9 => (parts.bytes(), parts),
-        10..=13 => {
+    match random.below(24) {
+        0..=11 => (parts.bytes(), parts),
+        12..=14 => {
             break_rule(&mut parts, random);
             (parts.bytes(), parts)
         }
-        14..=15 => {
+        15 => {
+            plant_twins(&mut parts, random);
+            (parts.bytes(), parts)
+        }
+        16..=17 => (misplaced(parts.bytes(), random), parts),
+        18..=19 => {
             let mut bytes = parts.bytes();
             set_field(&mut bytes, &parts, random);
             (bytes, parts)
         }
-        16 => {
+        20 => {
             let mut bytes = parts.bytes();
             for _ in 0..random.within(1, 4) {
                 let at = random.below(bytes.len());
@@ -25,8 +34,8 @@ pub fn bundle(random: &mut Random, number: usize) -> (Vec<u8>, Parts) {
             }
             (bytes, parts)
         }
-        17 => (cut(parts.bytes(), random), parts),
-        18 => {
+        21 => (cut(parts.bytes(), random), parts),
+        22 => {
             break_limit(&mut parts, random);
             (parts.bytes(), parts)
         }
@@ -34,13 +43,56 @@ pub fn bundle(random: &mut Random, number: usize) -> (Vec<u8>, Parts) {
     }
 }
 
+/// A long bundle: as it is, with twins, with a list out of its place, or with another rule broken.
+fn long_bundle(random: &mut Random) -> (Vec<u8>, Parts) {
+    let mut parts = long::parts(random);
+    match random.below(4) {
+        0 => plant_twins(&mut parts, random),
+        1 => return (misplaced(parts.bytes(), random), parts),
+        2 => break_rule(&mut parts, random),
+        _ => {}
+    }
+    (parts.bytes(), parts)
+}
+
+/// Adds twins of methods: next to these, at either end, or anywhere.
+fn plant_twins(parts: &mut Parts, random: &mut Random) {
+    for _ in 0..random.of(&[1, 1, 2, 3]) {
+        // Where there is no room for one more, the last method gives way.
+        parts.methods.truncate(511);
+        let count = parts.methods.len();
+        if count == 0 {
+            return;
+        }
+        let of = random.below(count);
+        let mut twin = parts.methods[of].clone();
+        twin.result = random.below(parts.classes.len()) as u8;
+        let anywhere = random.below(count + 1);
+        parts.methods.insert(random.of(&[0, of + 1, count, anywhere]), twin);
+    }
+}
+
+/// With the beginning of one list stated a byte or an entry off, or its length an entry, and all else as it was.
+fn misplaced(mut bytes: Vec<u8>, random: &mut Random) -> Vec<u8> {
+    let listed = random.of(&[CLASSES, METHODS]);
+    let count = listed.count(&bytes);
+    if count == 0 {
+        return bytes;
+    }
+    let anywhere = random.below(count);
+    let record = random.of(&[0, count / 2, count - 1, anywhere]);
+    let offset_at = listed.offset_at(&bytes, record);
+    let (at, off) =
+        if random.once_in(2) { (offset_at, random.within(1, listed.entry)) } else { (offset_at + 2, listed.entry) };
+    let stated = two_bytes(&bytes, at);
+    let changed = if stated >= off && random.once_in(2) { stated - off } else { stated + off };
+    bytes[at..at + 2].copy_from_slice(&(changed as u16).to_le_bytes());
+    bytes
+}
+
 /// Sets a byte, or two bytes together, of a section to a value at a boundary.
 fn set_field(bytes: &mut [u8], parts: &Parts, random: &mut Random) {
-    let section = |pair: usize| {
-        let number = |at: usize| u16::from_le_bytes([bytes[at], bytes[at + 1]]) as usize;
-        number(4 * pair)..number(4 * pair) + number(4 * pair + 2)
-    };
-    let sections = (0..6).map(section).filter(|range| !range.is_empty());
+    let sections = (0..6).map(|pair| section(bytes, pair)).filter(|range| !range.is_empty());
     let ranges: Vec<_> = std::iter::once(0..24).chain(sections).collect();
     let range = ranges[random.below(ranges.len())].clone();
     let at = range.start + random.below(range.len());
@@ -97,7 +149,7 @@ fn break_rule(parts: &mut Parts, random: &mut Random) {
     let classes = parts.classes.len();
     let class = random.below(classes);
     let absent = random.of(&[classes as u8, 255, classes.wrapping_add(1) as u8]);
-    match random.below(16) {
+    match random.below(14) {
         0 => parts.classes[0].parents.push(random.below(2) as u8),
         1 => parts.classes[class].parents.clear(),
         2 => parts.classes[class].parents.push(class as u8),
@@ -139,12 +191,6 @@ fn break_rule(parts: &mut Parts, random: &mut Random) {
                 5 => method.body.clear(),
                 _ => method.body = vec![[NEW, 0]; random.of(&[64, 65, 66, 127, 128])],
             }
-        }
-        11..=12 => {
-            let mut twin = parts.methods[random.below(parts.methods.len())].clone();
-            twin.result = class as u8;
-            let at = random.below(parts.methods.len() + 1);
-            parts.methods.insert(at, twin);
         }
         _ => {
             let at = random.below(parts.methods.len());
@@ -204,15 +250,15 @@ fn break_limit(parts: &mut Parts, random: &mut Random) {
             }
         }
         _ => {
-            // More code than a bundle has room for, or just room enough.
+            // More code than a bundle has room for, or just room enough: with 467 methods it has 65,460 bytes, with 468 too many.
             *parts = Parts::default();
-            parts.class(true, &[]);
-            parts.class(true, &[0]);
+            for number in 0..8 {
+                parts.class(true, if number == 0 { &[] } else { &[0] });
+            }
             let function = parts.function(3);
-            let methods = 400 + 60 * over as u16;
-            for number in 0..methods {
-                let bits = [number >> 6 & 1, number >> 3 & 1, number & 1].map(|bit| bit as u8);
-                parts.method(function, bits, 0, &[[NEW, 1]; 64]);
+            for number in 0..(467 + over) as u16 {
+                let specialisers = [number >> 6, number >> 3 & 7, number & 7].map(|digit| digit as u8);
+                parts.method(function, specialisers, 0, &[[NEW, 1]; 64]);
             }
         }
     }

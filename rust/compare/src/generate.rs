@@ -215,7 +215,7 @@ fn draw_rivals(parts: &mut Parts, random: &mut Random) {
 }
 
 /// Adds a method where there is room for one and it has no twin; says whether it did.
-fn add_method(parts: &mut Parts, method: Method) -> bool {
+pub fn add_method(parts: &mut Parts, method: Method) -> bool {
     let twin = parts
         .methods
         .iter()

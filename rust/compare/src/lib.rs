@@ -7,7 +7,10 @@ pub mod damage;
 pub mod generate;
 pub mod hierarchy;
 pub mod json;
+pub mod long;
+pub mod opening;
 pub mod rivals;
+pub mod sections;
 pub mod tally;
 pub mod vectors;
 

@@ -1,10 +1,11 @@
 //! What an ambiguous send is between.
 
+use crate::sections::methods;
+
 /// Of the methods that apply to a send of a bundle that opens, those that are beaten, and the rivals; both rising. The matrix is
 /// that of the bundle, as a call leaves it in its scratch.
 pub fn beaten_and_rivals(bundle: &[u8], matrix: &[u8], sent: [u64; 4]) -> (Vec<usize>, Vec<usize>) {
-    let number = |at: usize| u16::from_le_bytes([bundle[at], bundle[at + 1]]) as usize;
-    let records: Vec<&[u8]> = bundle[number(16)..][..number(18)].chunks_exact(12).collect();
+    let records = methods(bundle);
     // Unused places hold 0 everywhere, and class 0 is under itself.
     let all_under =
         |lower: &[u8], upper: &[u8]| lower.iter().zip(upper).all(|(&a, &b)| matrix[128 * a as usize + b as usize] == 1);

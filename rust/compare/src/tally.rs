@@ -5,6 +5,12 @@ use std::fmt;
 /// The numbers of refusals, and 0 for an answer.
 pub const NUMBERS: usize = 24;
 
+/// How many methods in one bucket are many.
+const MANY: usize = 16;
+
+/// Where lists can be off by one.
+const PLACES: [&str; 4] = ["the first begins", "one in the middle begins", "the last begins", "the last ends"];
+
 /// Counts of bundles, calls and numbers, and of differences.
 #[derive(Default)]
 pub struct Tally {
@@ -19,6 +25,12 @@ pub struct Tally {
     pub three_rivals: usize,
     /// How many ambiguous sends had a beaten method with a higher number than the second rival that is named.
     pub beaten_above: usize,
+    /// How many bundles that open have many methods in one bucket.
+    pub full_buckets: usize,
+    /// How many bundles with twins had others of their bucket before both, and how many had others between them.
+    pub beside_twins: [usize; 2],
+    /// How many bundles were refused by 4, and by 7, because a list was off by one, for each place.
+    pub off_by_one: [[usize; 4]; 2],
     /// How many runs ended with a value, spent, and deep.
     pub ends: [usize; 3],
     /// The most steps that a run made.
@@ -52,19 +64,46 @@ impl Tally {
         self.beaten_above += beaten.iter().any(|&method| method > second) as usize;
     }
 
+    /// Counts a bundle that opens by the methods in its fullest bucket.
+    pub fn count_buckets(&mut self, fullest: usize) {
+        self.full_buckets += (fullest >= MANY) as usize;
+    }
+
+    /// Counts a bundle with twins by the others of their bucket before both and between them. Where there are none, a search that
+    /// compares a method with the first or the last of its bucket alone could pass.
+    pub fn count_twins(&mut self, beside: [usize; 2]) {
+        for (count, others) in self.beside_twins.iter_mut().zip(beside) {
+            *count += (others > 0) as usize;
+        }
+    }
+
+    /// Counts a bundle that was refused by 4 or 7 by the place where a list is off by one, if any is.
+    pub fn count_misplaced(&mut self, number: u8, place: Option<usize>) {
+        if let Some(place) = place {
+            self.off_by_one[(number == 7) as usize][place] += 1;
+        }
+    }
+
     /// The numbers 0 to 17 that no check gave, those from 18 on, which are not a check's own, that no call gave, and the kinds of
-    /// ambiguous sends that no call met.
+    /// ambiguous sends and of openings that no call met.
     pub fn never_seen(&self) -> Vec<String> {
         let seen = |number: usize| match number {
             0..=17 => self.checks[number] != 0,
             _ => self.by_call.iter().any(|(_, counts)| counts[number] != 0),
         };
         let mut never: Vec<String> = (0..NUMBERS).filter(|&number| !seen(number)).map(|n| n.to_string()).collect();
-        if self.three_rivals == 0 {
-            never.push("three rivals".to_string());
-        }
-        if self.beaten_above == 0 {
-            never.push("a beaten method above a rival".to_string());
+        let [before, between] = self.beside_twins;
+        let kinds = [
+            (self.three_rivals, "three rivals"),
+            (self.beaten_above, "a beaten method above a rival"),
+            (self.full_buckets, "many methods in one bucket"),
+            (before, "twins after others of their bucket"),
+            (between, "twins with others of their bucket between them"),
+        ];
+        never.extend(kinds.into_iter().filter(|(count, _)| *count == 0).map(|(_, kind)| kind.to_string()));
+        for (number, counts) in [4, 7].into_iter().zip(self.off_by_one) {
+            let places = PLACES.into_iter().zip(counts).filter(|(_, count)| *count == 0);
+            never.extend(places.map(|(place, _)| format!("{number} off by one where {place}")));
         }
         never
     }
@@ -85,6 +124,14 @@ impl fmt::Display for Tally {
         }
         let (three, above) = (self.three_rivals, self.beaten_above);
         writeln!(f, "ambiguous: {three} with three rivals or more, {above} with a beaten method above a named rival")?;
+        let [before, between] = self.beside_twins;
+        writeln!(f, "twins: {before} after others of their bucket, {between} with others between them")?;
+        writeln!(f, "opened with {MANY} methods or more in one bucket: {}", self.full_buckets)?;
+        for (number, counts) in [4, 7].into_iter().zip(self.off_by_one) {
+            let places: Vec<String> =
+                PLACES.into_iter().zip(counts).map(|(place, count)| format!("{count} where {place}")).collect();
+            writeln!(f, "lists off by one, number {number}: {}", places.join(", "))?;
+        }
         let [value, spent, deep] = self.ends;
         writeln!(f, "runs: {value} value, {spent} spent, {deep} deep; at most {} steps", self.most_steps)
     }

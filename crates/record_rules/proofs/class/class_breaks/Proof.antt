@@ -11,7 +11,8 @@ use Rattle.rules.specs.Bytes.{byte}
 use Rattle.rules.specs.Layout.{classRule, sequenceRule, classAt, kindOf, listOffset, listLength, parentsOf, classCount, extent}
 use Rattle.record_rules.specs.Tests.{parentsRule}
 use Rattle.rules.proofs.Decides.{turned, passed}
-use Rattle.record_rules.proofs.Parts.{in-sequence, in-sequence-fits, beq-true, beq-false}
+use Rattle.rules.proofs.Running.{in-sequence}
+use Rattle.record_rules.proofs.Parts.{in-sequence-fits, beq-true, beq-false}
 use Rattle.record_rules.proofs.class.class_breaks.Statement.{statement}
 use Rattle.record_rules.proofs.class.class_breaks.Tie as tie
 

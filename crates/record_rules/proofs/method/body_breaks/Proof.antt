@@ -6,7 +6,7 @@ use mathlib.Core.Bool.{not, and-false}
 use borrow.Author.Tests.{le-leb, lt-leb}
 use Rattle.rules.specs.Layout.{sequenceRule, bodyOffset, bodyLength, methodCount, extent}
 use Rattle.rules.proofs.Decides.{turned}
-use Rattle.record_rules.proofs.Parts.{in-sequence}
+use Rattle.rules.proofs.Running.{in-sequence}
 use Rattle.record_rules.proofs.method.body_breaks.Statement.{statement}
 use Rattle.record_rules.proofs.method.body_breaks.Tie as tie
 

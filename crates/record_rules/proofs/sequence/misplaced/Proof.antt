@@ -5,7 +5,7 @@ use Prim.Native.Nat.{suc}
 use native.Mathlib.Omega.{arith}
 use mathlib.Core.Bool.{and-false}
 use borrow.Author.Tests.{eq-eqb, ne-eqb, le-leb, lt-leb, lt-ltb, le-ltb}
-use Rattle.record_rules.specs.Tests.{inSequence}
+use Rattle.rules.specs.Running.{inSequence}
 use Rattle.record_rules.proofs.sequence.misplaced.Statement.{statement}
 use Rattle.record_rules.proofs.sequence.misplaced.Tie as tie
 

@@ -1,7 +1,7 @@
--- `record_rules::tuple::same_tuple` meets its contract. The loop's invariant: every place below i has equal bytes.
+-- `twin_rule::twin::same_tuple` meets its contract. The loop's invariant: every place below i has equal bytes.
 -- Assumes nothing.
 use borrow.Author.Needs.{needs}
-use Prim.Native.Nat.{ℕ, _-_, _≤_, _<_}
+use Prim.Native.Nat.{ℕ, _+_, _-_, _≤_, _<_}
 use native.Mathlib.Omega.{arith}
 use mathlib.Core.Path.{_≡_, sym}
 use mathlib.Core.Bool.{true}
@@ -9,13 +9,13 @@ use lib.Dec.{eqb}
 use Rattle.rules.specs.Layout.{places}
 use borrow.Author.Count.{below-none, below-more}
 use borrow.Author.Tests.{eq-eqb, ne-eqb}
-use Rattle.record_rules.specs.Tests.{from}
-use Rattle.record_rules.proofs.Tests.{matching-part}
-use Rattle.record_rules.proofs.tuple.same_tuple.Statement.{statement}
-use Rattle.record_rules.proofs.tuple.same_tuple.Tie as tie
+use Rattle.rules.specs.Bytes.{byte}
+use Rattle.twin_rule.proofs.Twins.{matching-part}
+use Rattle.twin_rule.proofs.twin.same_tuple.Statement.{statement}
+use Rattle.twin_rule.proofs.twin.same_tuple.Tie as tie
 
 abbrev Inv-loop : tie.InvT-loop
-Inv-loop bytes at other i₀ i = (i ≤ places) × ((k : ℕ) → k < i → eqb (from bytes at k) (from bytes other k) ≡ true)
+Inv-loop bytes at other i₀ i = (i ≤ places) × ((k : ℕ) → k < i → eqb (byte bytes (at + k)) (byte bytes (other + k)) ≡ true)
 
 abbrev μ-loop : tie.MeasureT-loop
 μ-loop bytes at other i₀ i = places - i
@@ -27,14 +27,14 @@ returns c =
     let i = s .before .loop .i in
     sym
     (matching-part (a .bytes .now) (a .at) (a .other) places (search needs) (search needs) .breaks i (search needs)
-    (ne-eqb (from (a .bytes .now) (a .at) i) (from (a .bytes .now) (a .other) i) (λ q. c .if1 .taken (cc))))
+    (ne-eqb (byte (a .bytes .now) (a .at + i)) (byte (a .bytes .now) (a .other + i)) (λ q. c .if1 .taken (cc))))
 
 loop-again : tie.Need-loop-again Inv-loop μ-loop
 loop-again c =
     let s = c .before .before .before in
     let a = s .before .before .before .args in
     let i = s .before .loop .i in
-    (search needs, below-more _ _ (s .before .loop .inv .1) (eq-eqb (from (a .bytes .now) (a .at) i) (from (a .bytes .now) (a .other) i) (cc)))
+    (search needs, below-more _ _ (s .before .loop .inv .1) (eq-eqb (byte (a .bytes .now) (a .at + i)) (byte (a .bytes .now) (a .other + i)) (cc)))
 
 returns-2 : tie.Need-returns-2 Inv-loop μ-loop
 returns-2 c =

@@ -1,10 +1,10 @@
--- `record_rules::twin::are_twins` meets its contract: the functions are compared, and then the specialisers.
+-- `twin_rule::twin::are_twins` meets its contract: the functions are compared, and then the specialisers.
 -- Assumes nothing.
 use borrow.Author.Needs.{needs}
 use borrow.Author.Tests.{eq-eqb, ne-eqb}
 use Rattle.rules.specs.Layout.{twins, functionOf, specialiserTupleOf}
-use Rattle.record_rules.proofs.twin.are_twins.Statement.{statement}
-use Rattle.record_rules.proofs.twin.are_twins.Tie as tie
+use Rattle.twin_rule.proofs.twin.are_twins.Statement.{statement}
+use Rattle.twin_rule.proofs.twin.are_twins.Tie as tie
 
 returns : tie.Need-returns
 unfolding twins
