@@ -1,7 +1,7 @@
 /* Curiumtoad from C, and from any language that calls C.
  *
  * The functions are those of crates/curiumtoad_c, whose contracts say of each what is said here and are proved: for whatever is passed, number, values,
- * scratch, row and text are those of the rules (crates/rules/specs) and of the listing (crates/text/specs).
+ * scratch, row and text are those of the rules (crates/rules/specs) and of the listing (crates/lines/specs, crates/text/specs).
  *
  * Build and link, on x86-64 Linux; the archive needs no library beside the C library:
  *

@@ -28,11 +28,12 @@ use Rattle.calls.specs.Said.{coverageSaid, verdictSaid}
 use Rattle.curiumtoad.proofs.Called.{layout-refuses}
 use Rattle.text.specs.declared.listing.ListingAnswer as listing-type
 use Rattle.text.specs.declared.listing.ListingAnswer.the-variants as listing
-use Rattle.text.specs.Text.{countsLine, verdictLine, listingOn}
-use Rattle.text.specs.Text as text
-use Rattle.text.specs.Appended.{Appended}
-use Rattle.text.specs.Listed.{functionOf, Named, OpenedAs, Composed, Lists, layoutLine, Written}
-use Rattle.text.proofs.Growing.{grown-both}
+use Rattle.lines.specs.Text.{countsLine, verdictLine, listingOn}
+use Rattle.lines.specs.Text as text
+use Rattle.lines.specs.Appended.{Appended}
+use Rattle.lines.specs.Findings.{functionOf, Named, layoutLine}
+use Rattle.text.specs.Listed.{OpenedAs, Composed, Lists, Written}
+use Rattle.lines.proofs.Growing.{grown-both}
 
 -- how many values come with a number, and the second of them
 abbrev many : Answer (Unit {0}) → ℕ

@@ -1,4 +1,1 @@
-pub mod Growing
-pub mod Recorded
-pub mod Sends
 pub mod Composing

@@ -1,4 +1,2 @@
--- The listing's text as definitions.
-pub mod Text
-pub mod Appended
+-- What the listing promises.
 pub mod Listed

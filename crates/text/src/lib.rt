@@ -1,5 +1,3 @@
 // The listing: what the check says of a bundle, as lines of text; and the lines of refused calls.
-pub mod append;
-pub mod line;
 pub mod listing;
 pub mod refusal;

@@ -1,7 +1,4 @@
 // The listing of a bundle, in a lent buffer.
-use crate::line::counts_line;
-use crate::line::layout_line;
-use crate::line::verdict_line;
 use bundle_rules::finding::Opening;
 use bundle_rules::finding::finding_of;
 use bytes::copy;
@@ -9,6 +6,9 @@ use curiumtoad::check::check;
 use curiumtoad::opening::open;
 use dispatch::matrix::BYTES;
 use layout::bundle::Bundle;
+use lines::line::counts_line;
+use lines::line::layout_line;
+use lines::line::verdict_line;
 use reply::Reply;
 ghost use mathlib.Core.Path.{_≡_};
 ghost use Prim.Native.Nat.{_≤_};

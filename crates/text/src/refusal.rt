@@ -1,18 +1,18 @@
 // The line of a refused call, as the listing prints refusals.
-use crate::line::layout_line;
-use crate::line::number_line;
 use crate::listing::ListingAnswer;
 use bytes::copy;
 use calls::refusal::Refusal;
 use curiumtoad::chart::ChartAnswer;
+use lines::line::layout_line;
+use lines::line::number_line;
 ghost use mathlib.Core.Path.{_≡_};
 ghost use Prim.Native.Nat.{_≤_};
 ghost use lib.ListN.{length};
 ghost use Rattle.rules.specs.Model.{Model};
 ghost use Rattle.calls.specs.Said.{refusalSaid};
 ghost use Rattle.chart_line.specs.Charted.{chartSaid};
-ghost use Rattle.text.specs.Text.{refusalLine};
-ghost use Rattle.text.specs.Appended.{Appended};
+ghost use Rattle.lines.specs.Text.{refusalLine};
+ghost use Rattle.lines.specs.Appended.{Appended};
 ghost use Rattle.text.specs.Listed.{Written};
 
 // Writes the line of a refusal that comes before a call's own rules.

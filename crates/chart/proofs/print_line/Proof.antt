@@ -6,7 +6,7 @@ use lib.Seq.{length-take-le}
 use borrow.Author.Needs.{needs}
 use Rattle.rules.specs.Model.{modelOf}
 use Rattle.chart_line.specs.Charted.{chartSaid}
-use Rattle.text.specs.Text.{refusalLine}
+use Rattle.lines.specs.Text.{refusalLine}
 use Rattle.text.proofs.Composing.{piece-within}
 use Rattle.chart.proofs.Within.{line-within}
 use Rattle.chart.proofs.print_line.Statement.{statement}

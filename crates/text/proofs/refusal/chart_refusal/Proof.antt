@@ -9,7 +9,7 @@ use lib.Seq.{length-take-le}
 use borrow.Author.Needs.{needs}
 use Rattle.rules.specs.Model.{modelOf}
 use Rattle.chart_line.specs.Charted.{chartSaid}
-use Rattle.text.specs.Text.{refusalLine}
+use Rattle.lines.specs.Text.{refusalLine}
 use Rattle.text.proofs.Composing.{copied-short, copied-written}
 use Rattle.text.proofs.refusal.chart_refusal.Statement.{statement}
 use Rattle.text.proofs.refusal.chart_refusal.Tie as tie

@@ -10,8 +10,8 @@ use Rattle.calls.specs.declared.refusal.Refusal.the-variants as refusal
 use Rattle.calls.specs.Said.{refusalSaid}
 use Rattle.chart_line.specs.declared.line.ChartAnswer.{ChartAnswer}
 use Rattle.chart_line.specs.Charted.{chartSaid}
-use Rattle.text.specs.Text.{refusalLine}
-use Rattle.text.proofs.Growing.{grown-none, grown-wider, grown-as}
+use Rattle.lines.specs.Text.{refusalLine}
+use Rattle.lines.proofs.Growing.{grown-none, grown-wider, grown-as}
 use Rattle.text.proofs.refusal.compose_line.Statement.{statement}
 use Rattle.text.proofs.refusal.compose_line.Tie as tie
 

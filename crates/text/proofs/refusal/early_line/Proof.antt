@@ -6,8 +6,8 @@ use borrow.Author.Needs.{needs}
 use Rattle.rules.specs.Model.{Model}
 use Rattle.calls.specs.declared.refusal.Refusal.{Refusal}
 use Rattle.calls.specs.Said.{refusalSaid}
-use Rattle.text.specs.Text.{refusalLine}
-use Rattle.text.proofs.Growing.{grown-wider, grown-as}
+use Rattle.lines.specs.Text.{refusalLine}
+use Rattle.lines.proofs.Growing.{grown-wider, grown-as}
 use Rattle.text.proofs.refusal.early_line.Statement.{statement}
 use Rattle.text.proofs.refusal.early_line.Tie as tie
 
