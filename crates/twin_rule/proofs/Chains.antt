@@ -43,6 +43,7 @@ module _ (b : List ℕ) where
         long = length-replicate {A = ℕ} (buckets + maxMethods) 0;
         begins = λ h l. rw (getD-replicate {A = ℕ} (buckets + maxMethods) h 0 0 (omega arith)) (highest-none h);
         goes-on = λ m l. absurd (omega arith);
+        left = λ m l few. getD-replicate {A = ℕ} (buckets + maxMethods) (buckets + m) 0 0 (omega arith);
       }
 
   -- with one method more: it leads where its bucket's entry led, and that entry to it
@@ -53,6 +54,7 @@ module _ (b : List ℕ) where
         long = length-set linked h (k + 1) ∙ linked-long ∙ i .long;
         begins = λ g l. begin g l (ℕ-discrete g h);
         goes-on = λ m l. go-on m (eq-or-lt-of-le (omega arith));
+        left = λ m l most. unset m (λ q. omega arith) ∙ i .left m (omega arith) most;
       }
     where
       linked : List ℕ
@@ -67,13 +69,17 @@ module _ (b : List ℕ) where
           rw (getD-set-other linked h g (k + 1) 0 d, getD-set-other chains (buckets + k) g (getD chains h 0) 0 (λ q. omega arith))
           (highest-other k g (getD chains g 0) (λ q. d (sym q ∙ e)) (i .begins g l))
 
+      -- the entries of other methods are as they were
+      unset : (m : ℕ) → (m ≡ k → ⊥) → getD (set linked h (k + 1)) (buckets + m) 0 ≡ getD chains (buckets + m) 0
+      unset m apart =
+          getD-set-other linked h (buckets + m) (k + 1) 0 (λ q. omega arith)
+          ∙ getD-set-other chains (buckets + k) (buckets + m) (getD chains h 0) 0 (λ q. apart (omega arith))
+
       go-on : (m : ℕ) → (m ≡ k) ⊎ (m < k) → Highest b (bucketOf b m) m (getD (set linked h (k + 1)) (buckets + m) 0)
       go-on m (inl s) =
           rw (s, e, getD-set-other linked h (buckets + k) (k + 1) 0 (λ q. omega arith), getD-set-same chains (buckets + k) (getD chains h 0) 0 (omega (arith, i .long)))
           (i .begins h low)
-      go-on m (inr s) =
-          rw (getD-set-other linked h (buckets + m) (k + 1) 0 (λ q. omega arith), getD-set-other chains (buckets + k) (buckets + m) (getD chains h 0) 0 (λ q. omega arith))
-          (i .goes-on m s)
+      go-on m (inr s) = rw (unset m (λ q. omega arith)) (i .goes-on m s)
 
 pub chained-of : {b chains : List ℕ} → Chained b chains → ChainedBelow b chains (methodCount b)
 chained-of (chained i) = i

@@ -20,11 +20,12 @@ pub record Highest (b : List ℕ) (h k e : ℕ) : Type 0 where
   pub found : 0 < e → bucketOf b (e - 1) ≡ h
   pub above : (j : ℕ) → e ≤ j → j < k → bucketOf b j ≡ h → ⊥
 
--- the methods below k are chained: the entry of a bucket leads to its highest, and that of a method to the next lower one of its bucket
+-- the methods below k are chained: the entry of a bucket leads to its highest, that of a method to the next lower one of its bucket, and those that are left hold 0
 pub record ChainedBelow (b chains : List ℕ) (k : ℕ) : Type 0 where
   pub long : length chains ≡ buckets + maxMethods
   pub begins : (h : ℕ) → h < buckets → Highest b h k (getD chains h 0)
   pub goes-on : (m : ℕ) → m < k → Highest b (bucketOf b m) m (getD chains (buckets + m) 0)
+  pub left : (m : ℕ) → k ≤ m → m < maxMethods → getD chains (buckets + m) 0 ≡ 0
 
 -- all of them are; a data type, so that proofs pass it on whole
 pub data Chained (b chains : List ℕ) : Type 0 where
