@@ -1,3 +1,2 @@
-pub mod Directory
 pub mod Rules
 pub mod Opening

@@ -1,6 +1,4 @@
 // Opening (M 3.1): the rules 1 to 9 in their order, each decided for the whole bundle before the next.
-mod directory;
 pub mod finding;
-mod limits;
 mod lowest;
 pub mod opening;

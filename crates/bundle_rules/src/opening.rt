@@ -1,12 +1,12 @@
 // Opening: the rules in the order of their numbers.
-use crate::directory::directory_holds;
 use crate::finding::LayoutFinding;
 use crate::finding::Opening;
 use crate::finding::Rule;
-use crate::limits::size_holds;
-use crate::limits::within_limits;
 use crate::lowest::Lowest;
 use crate::lowest::lowest_broken;
+use directory_rules::directory::directory_holds;
+use directory_rules::limits::size_holds;
+use directory_rules::limits::within_limits;
 use layout::bundle::Bundle;
 use twin_rule::chain::chain_methods;
 ghost use mathlib.Core.Path.{_≡_};

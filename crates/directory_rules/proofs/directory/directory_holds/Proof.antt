@@ -1,9 +1,9 @@
--- `bundle_rules::directory::directory_holds` meets its contract: both rules are asked, and the second only where the first holds.
+-- `directory_rules::directory::directory_holds` meets its contract: both rules are asked, and the second only where the first holds.
 -- Assumes nothing.
 use borrow.Author.Needs.{needs}
 use borrow.Author.Tests.{not-true, not-false}
-use Rattle.bundle_rules.proofs.directory.directory_holds.Statement.{statement}
-use Rattle.bundle_rules.proofs.directory.directory_holds.Tie as tie
+use Rattle.directory_rules.proofs.directory.directory_holds.Statement.{statement}
+use Rattle.directory_rules.proofs.directory.directory_holds.Tie as tie
 
 pub directory-holds-spec : {M : Type 1} → statement M
 directory-holds-spec =

@@ -1,11 +1,11 @@
--- `bundle_rules::directory::chained` meets its contract: the tests that failed or passed on the way are those of the rule.
+-- `directory_rules::directory::chained` meets its contract: the tests that failed or passed on the way are those of the rule.
 -- Assumes nothing.
 use borrow.Author.Needs.{needs}
 use mathlib.Core.Bool.{and-false}
 use borrow.Author.Tests.{eq-eqb, ne-eqb, not-true, not-false}
 use Rattle.rules.specs.Layout.{chainRule, sectionEnd}
-use Rattle.bundle_rules.proofs.directory.chained.Statement.{statement}
-use Rattle.bundle_rules.proofs.directory.chained.Tie as tie
+use Rattle.directory_rules.proofs.directory.chained.Statement.{statement}
+use Rattle.directory_rules.proofs.directory.chained.Tie as tie
 
 returns : tie.Need-returns
 unfolding chainRule

@@ -1,11 +1,11 @@
--- `bundle_rules::limits::within_limits` meets its contract: the tests that failed or passed on the way are those of the rule.
+-- `directory_rules::limits::within_limits` meets its contract: the tests that failed or passed on the way are those of the rule.
 -- Assumes nothing.
 use mathlib.Core.Bool.{and-false}
 use borrow.Author.Tests.{le-leb, lt-leb, lt-ltb, le-ltb}
 use native.Mathlib.Omega.{arith}
 use Rattle.rules.specs.Layout.{limitRule}
-use Rattle.bundle_rules.proofs.limits.within_limits.Statement.{statement}
-use Rattle.bundle_rules.proofs.limits.within_limits.Tie as tie
+use Rattle.directory_rules.proofs.limits.within_limits.Statement.{statement}
+use Rattle.directory_rules.proofs.limits.within_limits.Tie as tie
 
 returns : tie.Need-returns
 unfolding limitRule

@@ -1,4 +1,4 @@
--- `bundle_rules::directory::joined` meets its contract. The loop's invariant: every section below k is followed by the next.
+-- `directory_rules::directory::joined` meets its contract. The loop's invariant: every section below k is followed by the next.
 -- Assumes nothing.
 use borrow.Author.Needs.{needs}
 use Prim.Native.Nat.{ℕ, suc, _+_, _-_, _≤_, _<_}
@@ -9,10 +9,10 @@ use mathlib.Core.Bool.{true}
 use borrow.Author.Count.{below-none, below-more}
 use borrow.Author.Tests.{eq-eqb, ne-eqb}
 use Rattle.rules.specs.Layout.{offset, extent, sectionEnd}
-use Rattle.bundle_rules.specs.Directory.{nextRule}
+use Rattle.directory_rules.specs.Directory.{nextRule}
 use Rattle.rules.proofs.Decides.{every-upto}
-use Rattle.bundle_rules.proofs.directory.joined.Statement.{statement}
-use Rattle.bundle_rules.proofs.directory.joined.Tie as tie
+use Rattle.directory_rules.proofs.directory.joined.Statement.{statement}
+use Rattle.directory_rules.proofs.directory.joined.Tie as tie
 
 abbrev Inv-loop : tie.InvT-loop
 Inv-loop bytes k₀ k = (k ≤ 5) × ((j : ℕ) → j < k → nextRule bytes j ≡ true)

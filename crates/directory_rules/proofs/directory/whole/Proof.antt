@@ -1,4 +1,4 @@
--- `bundle_rules::directory::whole` meets its contract: the tests that failed or passed on the way are those of the rule.
+-- `directory_rules::directory::whole` meets its contract: the tests that failed or passed on the way are those of the rule.
 -- Assumes nothing.
 use borrow.Author.Needs.{needs}
 use Prim.Native.Nat.{_%_}
@@ -7,8 +7,8 @@ use mathlib.Core.Bool.{true, and-false}
 use lib.Dec.{eqb}
 use borrow.Author.Tests.{eq-eqb, ne-eqb, lt-ltb, le-ltb}
 use Rattle.rules.specs.Layout.{wholeRule, extent, classBytes, signatureBytes, methodBytes}
-use Rattle.bundle_rules.proofs.directory.whole.Statement.{statement}
-use Rattle.bundle_rules.proofs.directory.whole.Tie as tie
+use Rattle.directory_rules.proofs.directory.whole.Statement.{statement}
+use Rattle.directory_rules.proofs.directory.whole.Tie as tie
 
 -- what the first three tests showed
 passed : (c : tie.Else3)

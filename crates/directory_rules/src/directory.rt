@@ -8,7 +8,7 @@ ghost use Prim.Native.Nat.{_≤_};
 ghost use lib.ListN.{length};
 ghost use Rattle.rules.specs.Bounded.{upto, every};
 ghost use Rattle.rules.specs.Layout.{chainRule, wholeRule};
-ghost use Rattle.bundle_rules.specs.Directory.{nextRule};
+ghost use Rattle.directory_rules.specs.Directory.{nextRule};
 
 // Whether each section begins where the one before it ends.
 fn joined(bytes: &[u8]) -> bool
@@ -65,7 +65,7 @@ fn whole(bytes: &[u8]) -> bool
 }
 
 // Number 2: whether the directory's sections follow each other and hold whole records.
-pub(crate) fn directory_holds(bytes: &[u8]) -> bool
+pub fn directory_holds(bytes: &[u8]) -> bool
     requires { ⌜ 24 ≤ length (now bytes) ⌝ }
     ensures { λ r. ⌜ r ≡ (chainRule (now (bytes .entry)) && wholeRule (now (bytes .entry))) ⌝ }
 {

@@ -5,7 +5,7 @@ ghost use Rattle.rules.specs.Layout.{sizeRule, limitRule};
 ghost use Rattle.layout.specs.Tables.{Tables};
 
 // Number 1: the length of the bundle.
-pub(crate) fn size_holds(bytes: &[u8]) -> bool
+pub fn size_holds(bytes: &[u8]) -> bool
     ensures { λ r. ⌜ r ≡ sizeRule (now (bytes .entry)) ⌝ }
 {
     if bytes.len() < 24 {
@@ -15,7 +15,7 @@ pub(crate) fn size_holds(bytes: &[u8]) -> bool
 }
 
 // Number 3: whether no count passes its limit, and there is a class.
-pub(crate) fn within_limits(bytes: &[u8], b: Bundle) -> bool
+pub fn within_limits(bytes: &[u8], b: Bundle) -> bool
     requires { ⌜ Tables (now bytes) b ⌝ }
     ensures { λ r. ⌜ r ≡ limitRule (now (bytes .entry)) ⌝ }
 {

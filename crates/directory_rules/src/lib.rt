@@ -1,0 +1,3 @@
+// Numbers 1 to 3: the size of a bundle, its directory, and its counts.
+pub mod directory;
+pub mod limits;
