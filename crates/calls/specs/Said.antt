@@ -7,7 +7,7 @@ use Rattle.rules.specs.Layout.{Answer, gives, refuses}
 use Rattle.rules.specs.Coverage.{Judgement, holds, fails}
 use Rattle.bundle_rules.specs.Opening.{saidOf}
 use Rattle.rules.specs.Machine.{Outcome}
-use Rattle.dispatch.specs.Send.{sendValues}
+use Rattle.subclasses.specs.Send.{sendValues}
 use Rattle.machine.specs.Outcome.{outcomeOf}
 use Rattle.calls.specs.declared.refusal.Refusal as refusal-type
 use Rattle.calls.specs.declared.refusal.Refusal.the-variants as refusal

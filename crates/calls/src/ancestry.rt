@@ -1,11 +1,11 @@
 // The ancestry question.
 use crate::refusal::Refusal;
-use dispatch::matrix::under;
 use layout::bundle::Bundle;
+use subclasses::matrix::under;
 ghost use mathlib.Core.Path.{_≡_};
 ghost use Rattle.rules.specs.Model.{modelOf};
 ghost use Rattle.rules.specs.Calls.{ancestryIn};
-ghost use Rattle.dispatch.specs.Prepared.{Prepared};
+ghost use Rattle.subclasses.specs.Prepared.{Prepared};
 ghost use Rattle.calls.specs.Said.{ancestrySaid};
 
 // Yes, no, or a refusal.

@@ -11,7 +11,7 @@ use typing::methods::type_bodies;
 ghost use mathlib.Core.Path.{_≡_};
 ghost use Rattle.rules.specs.Model.{modelOf};
 ghost use Rattle.rules.specs.Coverage.{bodyVerdict, brokenMethod, verdict};
-ghost use Rattle.dispatch.specs.Prepared.{Prepared};
+ghost use Rattle.subclasses.specs.Prepared.{Prepared};
 ghost use Rattle.calls.specs.Said.{ruleSaid, verdictSaid};
 
 // Numbers 14 to 17: the method and its first broken instruction.

@@ -3,14 +3,14 @@ use crate::refusal::Refusal;
 use dispatch::index::index_methods;
 use dispatch::lookup::lookup;
 use dispatch::select::Found;
-use dispatch::send::Send;
 use layout::bundle::Bundle;
 use sends::send::classes_of;
+use subclasses::send::Send;
 ghost use mathlib.Core.Path.{_≡_};
 ghost use Rattle.rules.specs.Model.{modelOf};
 ghost use Rattle.rules.specs.Calls.{lookupIn};
-ghost use Rattle.dispatch.specs.Prepared.{Prepared};
-ghost use Rattle.dispatch.specs.Send.{tupleOf};
+ghost use Rattle.subclasses.specs.Prepared.{Prepared};
+ghost use Rattle.subclasses.specs.Send.{tupleOf};
 ghost use Rattle.calls.specs.Said.{lookupSaid};
 
 // The method found; 10; 11 with the two rivals; or a refusal.

@@ -1,16 +1,16 @@
 // The run of a send.
 use crate::refusal::Refusal;
-use dispatch::send::Send;
 use layout::bundle::Bundle;
 use machine::run::Outcome;
 use machine::run::run;
 use sends::send::all_concrete;
 use sends::send::classes_of;
+use subclasses::send::Send;
 ghost use mathlib.Core.Path.{_≡_};
 ghost use Rattle.rules.specs.Model.{modelOf};
 ghost use Rattle.rules.specs.Calls.{runIn};
-ghost use Rattle.dispatch.specs.Prepared.{Prepared};
-ghost use Rattle.dispatch.specs.Send.{tupleOf};
+ghost use Rattle.subclasses.specs.Prepared.{Prepared};
+ghost use Rattle.subclasses.specs.Send.{tupleOf};
 ghost use Rattle.calls.specs.Said.{runSaid};
 
 // How the run ended, with the steps made; or a refusal.

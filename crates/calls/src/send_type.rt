@@ -1,16 +1,16 @@
 // The static type of a send.
 use crate::refusal::Refusal;
-use dispatch::send::Send;
 use layout::bundle::Bundle;
 use sends::send::classes_of;
+use subclasses::send::Send;
 use typing::row::ROW_BYTES;
 use typing::send::send_type;
 ghost use mathlib.Core.Path.{_≡_};
 ghost use lib.ListN.{length};
 ghost use Rattle.rules.specs.Model.{modelOf};
 ghost use Rattle.rules.specs.Calls.{sendTypeIn, rowOn};
-ghost use Rattle.dispatch.specs.Prepared.{Prepared};
-ghost use Rattle.dispatch.specs.Send.{tupleOf};
+ghost use Rattle.subclasses.specs.Prepared.{Prepared};
+ghost use Rattle.subclasses.specs.Send.{tupleOf};
 ghost use Rattle.calls.specs.Said.{blank, sendTypeSaid};
 
 // The type is in the row; 16, no signature licenses the send; or a refusal.

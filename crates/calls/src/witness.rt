@@ -2,13 +2,13 @@
 use crate::refusal::Refusal;
 use coverage_rule::judge::Judgement;
 use coverage_rule::judge::judge;
-use dispatch::send::Send;
-use dispatch::send::Tuple;
 use layout::bundle::Bundle;
 use layout::field::sig_function;
 use sends::covered::covers;
 use sends::send::all_concrete;
 use sends::send::classes_of;
+use subclasses::send::Send;
+use subclasses::send::Tuple;
 ghost use mathlib.Core.Path.{_≡_};
 ghost use mathlib.Core.Bool.{_&&_};
 ghost use Prim.Native.Nat.{_<_};
@@ -16,9 +16,9 @@ ghost use Rattle.rules.specs.Bounded.{every};
 ghost use Rattle.rules.specs.Model.{modelOf};
 ghost use Rattle.rules.specs.Coverage.{covers, concreteClass};
 ghost use Rattle.rules.specs.Calls.{witnessIn};
-ghost use Rattle.dispatch.specs.Prepared.{Prepared};
-ghost use Rattle.dispatch.specs.Places.{Arguments};
-ghost use Rattle.dispatch.specs.Send.{classesOf, tupleOf, sendValues};
+ghost use Rattle.subclasses.specs.Prepared.{Prepared};
+ghost use Rattle.subclasses.specs.Places.{Arguments};
+ghost use Rattle.subclasses.specs.Send.{classesOf, tupleOf, sendValues};
 ghost use Rattle.coverage_rule.specs.Judgements.{judgementOf};
 ghost use Rattle.calls.specs.Said.{coverageValues, ruleSaid, witnessSaid};
 

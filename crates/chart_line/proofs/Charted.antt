@@ -12,7 +12,7 @@ use Rattle.rules.specs.Model.{Model, Wellformed, present}
 use Rattle.rules.specs.Coverage.{concreteClass}
 use Rattle.rules.specs.Chart.{concretes, lineBytes}
 use Rattle.rules.proofs.Lists.{getD-mem, keep-mem, keep-length, upto-below, length-upto}
-use Rattle.dispatch.specs.Places.{Arguments}
+use Rattle.subclasses.specs.Places.{Arguments}
 use Rattle.chart_line.specs.Charted.{Charted}
 
 -- each is a class of the bundle

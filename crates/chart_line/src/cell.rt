@@ -8,7 +8,7 @@ ghost use Prim.Native.Nat.{_<_, _≤_};
 ghost use lib.ListN.{length, getD};
 ghost use Rattle.rules.specs.Model.{Model, modelOf};
 ghost use Rattle.rules.specs.Chart.{concretes, digitAt, number, entry, heading, cell};
-ghost use Rattle.dispatch.specs.Prepared.{Prepared};
+ghost use Rattle.subclasses.specs.Prepared.{Prepared};
 ghost use Rattle.dispatch.specs.Index.{Indexed};
 ghost use Rattle.dispatch.specs.Found.{foundOf};
 ghost use Rattle.chart_line.specs.Charted.{Charted};

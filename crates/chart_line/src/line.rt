@@ -13,7 +13,7 @@ ghost use Prim.Native.Nat.{_+_, _≤_};
 ghost use lib.ListN.{length, take, drop};
 ghost use Rattle.rules.specs.Model.{modelOf};
 ghost use Rattle.rules.specs.Chart.{cell, columns, lineBytes, chartLine, chartIn, lineOn};
-ghost use Rattle.dispatch.specs.Prepared.{Prepared};
+ghost use Rattle.subclasses.specs.Prepared.{Prepared};
 ghost use Rattle.chart_line.specs.Charted.{Charted, chartSaid, lengthSaid};
 
 // The bytes of the line, which is at the start of the buffer; 18 or an earlier number; 21; 22; or 23.

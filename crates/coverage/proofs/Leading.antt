@@ -21,7 +21,7 @@ use Rattle.rules.proofs.Lookup.{Candidate, leader-lookup, candidate-left}
 use Rattle.layout.specs.Opened.{Opened}
 use Rattle.layout.specs.declared.bundle.Bundle.{Bundle}
 use Rattle.layout.proofs.Opened.{counts-of}
-use Rattle.dispatch.proofs.Asked.{class-below}
+use Rattle.subclasses.proofs.Asked.{class-below}
 use Rattle.method_sets.specs.Sets.{inSet, rowAt, methodAt, classOf, Ordered, Tabled, Tables, Member, LedBy, AlikeIn}
 use Rattle.coverage.specs.Search.{Filling}
 

@@ -22,7 +22,7 @@ use Rattle.rules.proofs.Lookup.{left-none, left-more}
 use Rattle.layout.specs.Opened.{Opened}
 use Rattle.layout.specs.declared.bundle.Bundle.{Bundle}
 use Rattle.layout.proofs.Opened.{wellformed-of, counts-of}
-use Rattle.dispatch.specs.Places.{Arguments}
+use Rattle.subclasses.specs.Places.{Arguments}
 use Rattle.method_sets.specs.Sets.{inSet, rowAt, methodAt, classOf, Ordered, Tabled}
 use Rattle.coverage.specs.Search.{candidateClass, Filling}
 

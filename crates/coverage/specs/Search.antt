@@ -12,7 +12,7 @@ use Rattle.rules.specs.Model.{Model, present}
 use Rattle.rules.specs.Subclass.{subclass}
 use Rattle.rules.specs.Lookup.{left}
 use Rattle.rules.specs.Coverage.{Judgement, judge, failing, concreteClass, tuples, brokenTuple, brokenSignature}
-use Rattle.dispatch.specs.Send.{sendValues}
+use Rattle.subclasses.specs.Send.{sendValues}
 use Rattle.coverage.specs.declared.search.SearchEnd.{SearchEnd}
 use Rattle.coverage.specs.declared.search.SearchEnd.the-variants.{Exhausted, Stopped}
 use Rattle.coverage.specs.declared.search.Coverage as coverage-type

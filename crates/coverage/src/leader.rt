@@ -1,5 +1,4 @@
 // The method that leads a set: one of its methods, at least as specific as every one of them.
-use dispatch::matrix::under;
 use layout::bundle::Bundle;
 use layout::field::specialiser;
 use method_sets::sets::TABLE_WORDS;
@@ -7,6 +6,7 @@ use method_sets::sets::WORDS;
 use method_sets::sets::first_position;
 use method_sets::sets::row_at;
 use method_sets::sets::within;
+use subclasses::matrix::under;
 ghost use mathlib.Core.Path.{_≡_};
 ghost use mathlib.Core.Bool.{true};
 ghost use Prim.Native.Nat.{_<_, _≤_};
@@ -15,7 +15,7 @@ ghost use Rattle.rules.specs.Layout.{places};
 ghost use Rattle.rules.specs.Model.{modelOf};
 ghost use Rattle.rules.specs.Subclass.{subclass};
 ghost use Rattle.layout.specs.Opened.{Opened};
-ghost use Rattle.dispatch.specs.Prepared.{Prepared};
+ghost use Rattle.subclasses.specs.Prepared.{Prepared};
 ghost use Rattle.method_sets.specs.Sets.{AboveAll, LedBy, Ordered};
 
 // Whether method m is at least as specific as every method of the set: at each place the methods above its specialiser there are all of them.

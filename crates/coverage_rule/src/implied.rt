@@ -1,16 +1,16 @@
 // Signatures that an earlier one implies: they need no search.
-use dispatch::matrix::under;
-use dispatch::places::each_under;
-use dispatch::tuple::signature_classes;
 use layout::bundle::Bundle;
 use layout::field::arity;
 use layout::field::sig_function;
 use layout::field::sig_result;
+use subclasses::matrix::under;
+use subclasses::places::each_under;
+use subclasses::tuple::signature_classes;
 ghost use mathlib.Core.Path.{_≡_};
 ghost use Prim.Native.Nat.{_<_};
 ghost use Rattle.rules.specs.Model.{modelOf};
 ghost use Rattle.rules.specs.Alike.{implies};
-ghost use Rattle.dispatch.specs.Prepared.{Prepared};
+ghost use Rattle.subclasses.specs.Prepared.{Prepared};
 ghost use Rattle.coverage_rule.specs.Implied.{implied};
 
 // Whether signature e implies signature s: it is of the same function, covers what s covers, and has a result class under that of s.

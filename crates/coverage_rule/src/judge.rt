@@ -1,14 +1,14 @@
 // The coverage rule for one tuple of a signature.
 use dispatch::index::index_methods;
 use dispatch::lookup::lookup;
-use dispatch::matrix::under;
-use dispatch::places::each_under;
 use dispatch::select::Found;
-use dispatch::tuple::declared_classes;
 use layout::bundle::Bundle;
 use layout::field::result;
 use layout::field::sig_function;
 use layout::field::sig_result;
+use subclasses::matrix::under;
+use subclasses::places::each_under;
+use subclasses::tuple::declared_classes;
 ghost use mathlib.Core.Path.{_≡_};
 ghost use mathlib.Core.Bool.{true};
 ghost use Prim.Native.Nat.{_<_};
@@ -16,8 +16,8 @@ ghost use lib.ListN.{length};
 ghost use Rattle.rules.specs.Model.{modelOf, present};
 ghost use Rattle.rules.specs.Lookup.{found, lookup};
 ghost use Rattle.rules.specs.Coverage.{judgeFound, judge, failing};
-ghost use Rattle.dispatch.specs.Prepared.{Prepared};
-ghost use Rattle.dispatch.specs.Places.{Arguments, OfArity};
+ghost use Rattle.subclasses.specs.Prepared.{Prepared};
+ghost use Rattle.subclasses.specs.Places.{Arguments, OfArity};
 ghost use Rattle.dispatch.specs.Found.{foundOf};
 ghost use Rattle.coverage_rule.specs.Judgements.{judgementOf};
 

@@ -21,8 +21,8 @@ use Rattle.bundle_rules.specs.declared.finding.LayoutFinding.{LayoutFinding}
 use Rattle.bundle_rules.specs.declared.finding.LayoutFinding.the-variants as finding
 use Rattle.layout.specs.Opened.{Opened}
 use Rattle.layout.specs.declared.bundle.Bundle.{Bundle}
-use Rattle.dispatch.specs.Prepared.{Prepared}
-use Rattle.dispatch.proofs.Entry.{filled-whole}
+use Rattle.subclasses.specs.Prepared.{Prepared}
+use Rattle.subclasses.proofs.Entry.{filled-whole}
 use Rattle.machine.specs.declared.ending.Ending.{Ending}
 use Rattle.machine.specs.declared.ending.Ending.the-variants as ending
 use Rattle.machine.specs.declared.run.Outcome.{Outcome}

@@ -19,8 +19,8 @@ use Rattle.bundle_rules.specs.Opening.{saidOf, Opens}
 use Rattle.layout.specs.Opened as layout-opened
 use Rattle.layout.proofs.Opened.{counts-of}
 use Rattle.bundle_rules.proofs.Opened.{opened-of}
-use Rattle.dispatch.specs.Prepared.{Prepared}
-use Rattle.dispatch.proofs.Entry.{filled-whole}
+use Rattle.subclasses.specs.Prepared.{Prepared}
+use Rattle.subclasses.proofs.Entry.{filled-whole}
 use Rattle.calls.specs.declared.refusal.Refusal.{Refusal}
 use Rattle.calls.specs.declared.refusal.Refusal.the-variants as refusal
 use Rattle.curiumtoad.specs.declared.prepare.Early.{Early}

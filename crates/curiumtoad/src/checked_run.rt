@@ -3,11 +3,11 @@ use crate::check::Verdict;
 use crate::check::check;
 use crate::run::RunAnswer;
 use crate::run::run;
-use dispatch::send::Send;
+use subclasses::send::Send;
 ghost use mathlib.Core.Path.{_≡_};
 ghost use lib.ListN.{length};
 ghost use Rattle.rules.specs.Calls.{checkCall, runCall, scratchAfter};
-ghost use Rattle.dispatch.specs.Send.{tupleOf};
+ghost use Rattle.subclasses.specs.Send.{tupleOf};
 ghost use Rattle.calls.specs.Said.{verdictSaid, runSaid};
 ghost use Rattle.curiumtoad.specs.Alike.{JudgedAlike};
 

@@ -15,5 +15,5 @@ pub mod view;
 pub mod witness;
 
 pub use calls::refusal::Refusal;
-pub use dispatch::send::Send;
-pub use dispatch::send::Tuple;
+pub use subclasses::send::Send;
+pub use subclasses::send::Tuple;

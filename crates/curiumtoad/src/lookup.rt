@@ -4,11 +4,11 @@ use crate::prepare::prepare;
 use crate::prepare::refusal;
 pub use calls::lookup::LookupAnswer;
 use calls::lookup::lookup_in;
-use dispatch::send::Send;
+use subclasses::send::Send;
 ghost use mathlib.Core.Path.{_≡_};
 ghost use lib.ListN.{length};
 ghost use Rattle.rules.specs.Calls.{lookupCall, scratchAfter};
-ghost use Rattle.dispatch.specs.Send.{tupleOf};
+ghost use Rattle.subclasses.specs.Send.{tupleOf};
 ghost use Rattle.calls.specs.Said.{lookupSaid};
 
 // What a send of the function with these classes, abstract ones too, finds.

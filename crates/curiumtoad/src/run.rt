@@ -4,11 +4,11 @@ use crate::prepare::prepare;
 use crate::prepare::refusal;
 pub use calls::run::RunAnswer;
 use calls::run::run_in;
-use dispatch::send::Send;
+use subclasses::send::Send;
 ghost use mathlib.Core.Path.{_≡_};
 ghost use lib.ListN.{length};
 ghost use Rattle.rules.specs.Calls.{runCall, scratchAfter};
-ghost use Rattle.dispatch.specs.Send.{tupleOf};
+ghost use Rattle.subclasses.specs.Send.{tupleOf};
 ghost use Rattle.calls.specs.Said.{runSaid};
 
 // A run of the function with these concrete classes, of no more steps than the count. The bundle has to open, not to be accepted.

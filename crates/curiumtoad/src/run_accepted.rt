@@ -6,14 +6,14 @@ use calls::check::Finding;
 use calls::check::Verdict;
 use calls::refusal::Refusal;
 use calls::run::RunAnswer;
-use dispatch::send::Send;
 use machine::ending::Ending;
 use machine::run::Outcome;
 use sends::covered::is_covered;
+use subclasses::send::Send;
 ghost use mathlib.Core.Path.{_≡_};
 ghost use lib.ListN.{length};
 ghost use Rattle.rules.specs.Calls.{scratchAfter};
-ghost use Rattle.dispatch.specs.Send.{tupleOf};
+ghost use Rattle.subclasses.specs.Send.{tupleOf};
 ghost use Rattle.machine.specs.Outcome.{outcomeOf};
 ghost use Rattle.curiumtoad.specs.Accepted.{Accepts, Unstopped, Ends, Unended, refusedAs};
 

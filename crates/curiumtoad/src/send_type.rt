@@ -4,11 +4,11 @@ use crate::prepare::prepare;
 use crate::prepare::refusal;
 pub use calls::send_type::SendTypeAnswer;
 use calls::send_type::send_type_in;
-use dispatch::send::Send;
+use subclasses::send::Send;
 ghost use mathlib.Core.Path.{_≡_};
 ghost use lib.ListN.{length};
 ghost use Rattle.rules.specs.Calls.{sendTypeCall, scratchAfter, rowAfter};
-ghost use Rattle.dispatch.specs.Send.{tupleOf};
+ghost use Rattle.subclasses.specs.Send.{tupleOf};
 ghost use Rattle.calls.specs.Said.{blank, sendTypeSaid};
 
 // The static type of a send of the function with arguments of these classes, abstract ones too, into the lent row.

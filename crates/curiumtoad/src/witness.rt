@@ -5,11 +5,11 @@ use crate::prepare::refusal;
 pub use calls::witness::CoverageFinding;
 pub use calls::witness::WitnessAnswer;
 use calls::witness::witness_in;
-use dispatch::send::Tuple;
+use subclasses::send::Tuple;
 ghost use mathlib.Core.Path.{_≡_};
 ghost use lib.ListN.{length};
 ghost use Rattle.rules.specs.Calls.{witnessCall, scratchAfter};
-ghost use Rattle.dispatch.specs.Send.{classesOf};
+ghost use Rattle.subclasses.specs.Send.{classesOf};
 ghost use Rattle.calls.specs.Said.{witnessSaid};
 
 // The coverage rule's answer for a signature and a tuple of concrete classes that it covers.

@@ -13,7 +13,7 @@ use Rattle.rules.specs.Lookup.{applicable, missing, select}
 use Rattle.rules.proofs.Lists.{and-left, and-right, and-both, every-mem, every-from, every-place}
 use Rattle.rules.proofs.Lookup.{applicable-candidate}
 use Rattle.rules.proofs.Selection.{MethodOf}
-use Rattle.dispatch.specs.Places.{OfArity}
+use Rattle.subclasses.specs.Places.{OfArity}
 use Rattle.dispatch.specs.Listed.{methodOf, Listed, listed, Candidates}
 
 pub method-of : {M : Model} {f m : ℕ} → methodOf M f m ≡ true → MethodOf M f m

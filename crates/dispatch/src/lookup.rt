@@ -6,8 +6,8 @@ use layout::bundle::Bundle;
 ghost use mathlib.Core.Path.{_≡_};
 ghost use Rattle.rules.specs.Model.{modelOf};
 ghost use Rattle.rules.specs.Lookup.{lookup};
-ghost use Rattle.dispatch.specs.Prepared.{Prepared};
-ghost use Rattle.dispatch.specs.Places.{Arguments};
+ghost use Rattle.subclasses.specs.Prepared.{Prepared};
+ghost use Rattle.subclasses.specs.Places.{Arguments};
 ghost use Rattle.dispatch.specs.Index.{Indexed};
 ghost use Rattle.dispatch.specs.Found.{foundOf};
 

@@ -1,14 +1,14 @@
 // The method that leads a list of applicable ones, or the two rivals to name.
-use crate::places::each_under;
-use crate::tuple::specialisers;
 use layout::bundle::Bundle;
+use subclasses::places::each_under;
+use subclasses::tuple::specialisers;
 ghost use mathlib.Core.Path.{_≡_};
 ghost use Prim.Native.Nat.{_<_, _≤_};
 ghost use lib.ListN.{length};
 ghost use Rattle.rules.specs.Model.{modelOf};
 ghost use Rattle.rules.specs.Lookup.{asSpecific, unbeaten, select};
-ghost use Rattle.dispatch.specs.Prepared.{Prepared};
-ghost use Rattle.dispatch.specs.Places.{OfArity};
+ghost use Rattle.subclasses.specs.Prepared.{Prepared};
+ghost use Rattle.subclasses.specs.Places.{OfArity};
 ghost use Rattle.dispatch.specs.Listed.{Candidates};
 ghost use Rattle.dispatch.specs.Rivals.{rivalsBefore, LastRival};
 ghost use Rattle.dispatch.specs.Found.{foundOf};

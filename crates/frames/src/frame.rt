@@ -1,6 +1,6 @@
 // The fields of a frame.
-use dispatch::tuple::class_at;
 use layout::bundle::Bundle;
+use subclasses::tuple::class_at;
 ghost use mathlib.Core.Path.{_≡_};
 ghost use Prim.Native.Nat.{_+_, _*_, _<_, _≤_};
 ghost use lib.ListN.{length, getD};

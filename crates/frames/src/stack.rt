@@ -1,10 +1,10 @@
 // The stack of a frame's values.
 use crate::frame::FRAME_BYTES;
 use crate::frame::FRAME_NUMBERS;
-use dispatch::tuple::class_at;
-use dispatch::tuple::padded_tuple;
-use dispatch::tuple::part;
 use layout::bundle::Bundle;
+use subclasses::tuple::class_at;
+use subclasses::tuple::padded_tuple;
+use subclasses::tuple::part;
 ghost use mathlib.Core.Path.{_≡_};
 ghost use Prim.Native.Nat.{_+_, _-_, _<_, _≤_};
 ghost use lib.ListN.{getD};

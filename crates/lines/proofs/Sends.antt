@@ -8,8 +8,8 @@ use lib.ListN.{take}
 use lib.Seq.{take-append-le}
 use Rattle.rules.specs.Model.{Model}
 use Rattle.rules.specs.Layout.{refuses}
-use Rattle.dispatch.specs.declared.send.Send as send-type
-use Rattle.dispatch.specs.Send.{tupleOf, sendValues}
+use Rattle.subclasses.specs.declared.send.Send as send-type
+use Rattle.subclasses.specs.Send.{tupleOf, sendValues}
 use Rattle.calls.specs.declared.witness.CoverageFinding as coverage-type
 use Rattle.calls.specs.Said.{coverageSaid}
 use Rattle.rules.specs.Ascii.{ascii}

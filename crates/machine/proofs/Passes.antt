@@ -21,8 +21,8 @@ use Rattle.rules.specs.Machine.{Frame, push, after, resume, call, turn, made, f
 use Rattle.rules.proofs.Lists.{and-left, and-right, and-both, every-places}
 use Rattle.rules.proofs.Places.{part-at, part-length}
 use Rattle.rules.proofs.Tuples.{padded-read}
-use Rattle.dispatch.specs.Places.{Arguments}
-use Rattle.dispatch.proofs.Asked.{class-below}
+use Rattle.subclasses.specs.Places.{Arguments}
+use Rattle.subclasses.proofs.Asked.{class-below}
 use Rattle.frames.specs.Arrays.{frameNumbers, frameBytes, stackRoom, methodAt, nextAt, heightAt, stackAt, HasFrame, raised, laid, lowered, passed}
 use Rattle.machine.specs.Held.{stackFrom, frameOf, callersOf, resumed, split, turnAt, FrameFits, Waiting, waiting, Held, held, Going, going}
 use Rattle.machine.proofs.Stores.{length-stack, drop-stack, take-stack, kept, frame-of, callers-same, waiting-same, numbers-of, fits-of, waiting-of, waits-of, StackRoom, pushed-frame, pushed-callers, lowered-frame}

@@ -15,7 +15,7 @@ use Rattle.rules.specs.Model.{Model, Wellformed, present}
 use Rattle.rules.specs.Lookup.{found, missing, ambiguous, lookup}
 use Rattle.rules.specs.Coverage.{declaredHold}
 use Rattle.rules.specs.Machine.{Frame, made, failed, deep, stopped, resume, targetFound, target, enter, callTarget, call, maxFrames}
-use Rattle.dispatch.specs.Places.{Arguments}
+use Rattle.subclasses.specs.Places.{Arguments}
 use Rattle.frames.specs.Arrays.{frameNumbers, frameBytes, HasFrame, HasStack, begun, given}
 use Rattle.machine.specs.Held.{frameWith, frameOf, callersOf, resumed, FrameFits, Waiting, Held, held}
 use Rattle.machine.proofs.Stores.{part-prefix, kept, frame-of, callers-same, waiting-same, waits-of, has-frame, has-stack}

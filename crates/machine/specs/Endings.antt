@@ -5,7 +5,7 @@ use mathlib.Core.Path.{_≡_}
 use mathlib.Core.List.{List, [], _∷_, _++_}
 use Rattle.rules.specs.Model.{Model}
 use Rattle.rules.specs.Machine as rules
-use Rattle.dispatch.specs.Send.{sendValues}
+use Rattle.subclasses.specs.Send.{sendValues}
 use Rattle.machine.specs.Held.{resumed, Going}
 use Rattle.machine.specs.declared.ending.Ending.{Ending}
 use Rattle.machine.specs.declared.ending.Ending.the-variants as ending

@@ -1,5 +1,5 @@
 // How a run ends, and what one instruction comes to.
-use dispatch::send::Send;
+use subclasses::send::Send;
 
 // A value; the step count used up; the frames used up; or 10, 11 and 12 with the send and the methods, 14 and 15 with the method and its instruction.
 pub enum Ending {

@@ -20,7 +20,7 @@ ghost use mathlib.Core.List.{_∷_};
 ghost use Rattle.rules.specs.Model.{modelOf, arg, new, send};
 ghost use Rattle.rules.specs.Machine.{made, resume, after};
 ghost use Rattle.layout.specs.Opened.{Opened};
-ghost use Rattle.dispatch.specs.Prepared.{Prepared};
+ghost use Rattle.subclasses.specs.Prepared.{Prepared};
 ghost use Rattle.dispatch.specs.Index.{Indexed};
 ghost use Rattle.frames.specs.Arrays.{methodAt};
 ghost use Rattle.machine.specs.Held.{frameOf, callersOf, split, nextOf, turnAt, Going};

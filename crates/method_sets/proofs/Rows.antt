@@ -15,11 +15,11 @@ use Rattle.rules.specs.Subclass.{subclass}
 use Rattle.layout.specs.Opened.{Opened}
 use Rattle.layout.specs.declared.bundle.Bundle.{Bundle}
 use Rattle.layout.proofs.Opened.{counts-of, placed-of}
-use Rattle.dispatch.specs.Matrix.{entryAt}
-use Rattle.dispatch.specs.Places.{InMatrix}
-use Rattle.dispatch.specs.Prepared.{Prepared}
-use Rattle.dispatch.proofs.Asked.{answered}
-use Rattle.dispatch.proofs.Entry.{bit-test}
+use Rattle.subclasses.specs.Matrix.{entryAt}
+use Rattle.subclasses.specs.Places.{InMatrix}
+use Rattle.subclasses.specs.Prepared.{Prepared}
+use Rattle.subclasses.proofs.Asked.{answered}
+use Rattle.subclasses.proofs.Entry.{bit-test}
 use Rattle.method_sets.specs.Sets.{setWords, inSet, rowAt, classOf, methodAt, Marked, Packed, Column, Rows, TabledTo}
 
 -- where the first n words stay, so do the sets among them

@@ -17,7 +17,7 @@ use borrow.Author.Tests.{ltb-true, ltb-false}
 use Rattle.rules.specs.Layout.{maxMethods}
 use Rattle.rules.specs.Calls.{bit}
 use Rattle.rules.proofs.Lists.{and-right}
-use Rattle.dispatch.proofs.Entry.{bit-test}
+use Rattle.subclasses.proofs.Entry.{bit-test}
 use Rattle.method_sets.specs.Sets.{setWords, bitAt, inSet, Within, SameWithin, Packed}
 
 -- A bit of both words is a bit of each.

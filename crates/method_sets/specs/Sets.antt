@@ -10,7 +10,7 @@ use Rattle.rules.specs.Layout.{places, maxMethods}
 use Rattle.rules.specs.Model.{Model}
 use Rattle.rules.specs.Subclass.{subclass}
 use Rattle.rules.specs.Calls.{bit}
-use Rattle.dispatch.specs.Matrix.{entryAt}
+use Rattle.subclasses.specs.Matrix.{entryAt}
 
 -- the words of a set, and of a table of sets
 abbrev pub setWords : ℕ

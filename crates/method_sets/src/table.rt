@@ -3,12 +3,12 @@ use crate::sets::TABLE_WORDS;
 use crate::sets::WORDS;
 use crate::sets::pack;
 use crate::sets::row_at;
-use dispatch::matrix::under;
 use layout::bundle::Bundle;
 use layout::bytes::byte_at;
 use layout::field::declared;
 use layout::field::function;
 use layout::field::specialiser;
+use subclasses::matrix::under;
 ghost use mathlib.Core.Path.{_≡_};
 ghost use Prim.Native.Nat.{ℕ, _<_, _≤_};
 ghost use lib.Dec.{eqb};
@@ -17,9 +17,9 @@ ghost use Rattle.rules.specs.Layout.{places, maxClasses, maxMethods};
 ghost use Rattle.rules.specs.Model.{modelOf};
 ghost use Rattle.rules.specs.Calls.{scratchBytes, matrixStride, bit};
 ghost use Rattle.layout.specs.Opened.{Opened};
-ghost use Rattle.dispatch.specs.Prepared.{Prepared};
-ghost use Rattle.dispatch.specs.Matrix.{entryAt};
-ghost use Rattle.dispatch.specs.Places.{InMatrix};
+ghost use Rattle.subclasses.specs.Prepared.{Prepared};
+ghost use Rattle.subclasses.specs.Matrix.{entryAt};
+ghost use Rattle.subclasses.specs.Places.{InMatrix};
 ghost use Rattle.method_sets.specs.Sets.{classOf, methodAt, inSet, Ordered, Marked, Column, Rows, Tabled};
 
 // A test as a mark.

@@ -22,8 +22,8 @@ use Rattle.layout.specs.declared.bundle.Bundle.{Bundle}
 use Rattle.layout.proofs.Opened.{counts-of, wellformed-of}
 use Rattle.rules.proofs.Decides.{Decides}
 use Rattle.record_rules.proofs.Tests.{tuple-decides}
-use Rattle.dispatch.specs.Places.{InMatrix}
-use Rattle.dispatch.proofs.Asked.{class-below}
+use Rattle.subclasses.specs.Places.{InMatrix}
+use Rattle.subclasses.proofs.Asked.{class-below}
 use Rattle.sends.specs.Send.{fitsPlace, Passes}
 
 -- the rule on the places, by place

@@ -9,7 +9,7 @@ use lib.ListN.{length, replicate, take}
 use Rattle.rules.specs.Layout.{places}
 use Rattle.rules.specs.Model.{Model}
 use Rattle.rules.specs.Calls.{used}
-use Rattle.dispatch.specs.Places.{Arguments}
+use Rattle.subclasses.specs.Places.{Arguments}
 
 -- `tupleRule` of one place: a class where it is used, else 0
 unfoldable pub fitsPlace : ℕ → ℕ → ℕ → ℕ → Bool

@@ -1,20 +1,20 @@
 // Whether signatures cover a send.
 use crate::send::classes_of;
-use dispatch::places::each_under;
-use dispatch::send::Send;
-use dispatch::tuple::signature_classes;
 use layout::bundle::Bundle;
 use layout::field::sig_function;
+use subclasses::places::each_under;
+use subclasses::send::Send;
+use subclasses::tuple::signature_classes;
 ghost use mathlib.Core.Path.{_≡_};
 ghost use mathlib.Core.Bool.{true};
 ghost use Prim.Native.Nat.{_<_};
 ghost use Rattle.rules.specs.Bounded.{any, upto};
 ghost use Rattle.rules.specs.Model.{modelOf};
 ghost use Rattle.rules.specs.Coverage.{covers};
-ghost use Rattle.dispatch.specs.Prepared.{Prepared};
+ghost use Rattle.subclasses.specs.Prepared.{Prepared};
 ghost use Rattle.rules.specs.Calls.{sendRule, used};
-ghost use Rattle.dispatch.specs.Places.{Arguments};
-ghost use Rattle.dispatch.specs.Send.{tupleOf};
+ghost use Rattle.subclasses.specs.Places.{Arguments};
+ghost use Rattle.subclasses.specs.Send.{tupleOf};
 ghost use Rattle.sends.specs.Covered.{coversSend};
 
 // Whether the signature covers argument classes of its function.

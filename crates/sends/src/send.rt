@@ -1,10 +1,10 @@
 // A send as a caller passes it: any function number, and any number for each place.
-use dispatch::send::Send;
-use dispatch::send::Tuple;
 use layout::bundle::Bundle;
 use layout::bytes::byte_at;
 use layout::field::arity;
 use layout::field::is_concrete;
+use subclasses::send::Send;
+use subclasses::send::Tuple;
 ghost use mathlib.Core.Path.{_≡_};
 ghost use mathlib.Core.Bool.{true, false};
 ghost use Prim.Native.Nat.{_<_};
@@ -14,7 +14,7 @@ ghost use Rattle.rules.specs.Model.{modelOf, present};
 ghost use Rattle.rules.specs.Coverage.{concreteClass};
 ghost use Rattle.rules.specs.Calls.{sendRule, matrixStride};
 ghost use Rattle.layout.specs.Opened.{Opened};
-ghost use Rattle.dispatch.specs.Send.{classesOf, tupleOf};
+ghost use Rattle.subclasses.specs.Send.{classesOf, tupleOf};
 ghost use Rattle.sends.specs.Send.{fitsPlace, Passes, PassesNone};
 
 // Whether a number is a class at a used place, the first n, or 0 at another.

@@ -24,7 +24,7 @@ ghost use Rattle.rules.specs.Types.{argType, typeBody};
 ghost use Rattle.rules.specs.Calls.{rowBytes, overwrite};
 ghost use Rattle.layout.specs.Instruction.{instr};
 ghost use Rattle.layout.specs.Opened.{Opened};
-ghost use Rattle.dispatch.specs.Prepared.{Prepared};
+ghost use Rattle.subclasses.specs.Prepared.{Prepared};
 ghost use Rattle.typing.specs.Rows.{typeByte};
 ghost use Rattle.typing.specs.Bodies.{typingOf, Applied, AppliedSend, Ended};
 

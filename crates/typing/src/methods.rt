@@ -5,7 +5,7 @@ use layout::bundle::Bundle;
 ghost use mathlib.Core.Path.{_≡_};
 ghost use Rattle.rules.specs.Model.{modelOf};
 ghost use Rattle.rules.specs.Coverage.{bodyVerdict, brokenMethod};
-ghost use Rattle.dispatch.specs.Prepared.{Prepared};
+ghost use Rattle.subclasses.specs.Prepared.{Prepared};
 ghost use Rattle.typing.specs.Methods.{bodiesSaid};
 
 // Every body types, or the lowest method whose body breaks: by a number, at an instruction.

@@ -1,7 +1,7 @@
 // A static type as a row: byte c of its first 128 is 1 when class c is in the type, and later bytes are left alone.
-use dispatch::matrix::under;
 use layout::bundle::Bundle;
 use layout::bytes::byte_at;
+use subclasses::matrix::under;
 ghost use mathlib.Core.Path.{_≡_};
 ghost use mathlib.Core.Bool.{true};
 ghost use mathlib.Core.List.{[], _∷_};
@@ -10,7 +10,7 @@ ghost use lib.ListN.{length};
 ghost use Rattle.rules.specs.Layout.{places};
 ghost use Rattle.rules.specs.Model.{modelOf, present};
 ghost use Rattle.rules.specs.Calls.{rowBytes, overwrite};
-ghost use Rattle.dispatch.specs.Prepared.{Prepared};
+ghost use Rattle.subclasses.specs.Prepared.{Prepared};
 ghost use Rattle.typing.specs.Rows.{typeByte, noByte, sameByte, joined, joinedByte, Rows, classTypes};
 
 // The bytes of a row.

@@ -19,8 +19,8 @@ ghost use Rattle.rules.specs.Model.{modelOf};
 ghost use Rattle.rules.specs.Types.{sendType};
 ghost use Rattle.rules.specs.Calls.{rowBytes, licensed, rowOn};
 ghost use Rattle.layout.specs.Opened.{Opened};
-ghost use Rattle.dispatch.specs.Prepared.{Prepared};
-ghost use Rattle.dispatch.specs.Places.{Arguments};
+ghost use Rattle.subclasses.specs.Prepared.{Prepared};
+ghost use Rattle.subclasses.specs.Places.{Arguments};
 ghost use Rattle.typing.specs.Rows.{copiedIf, classTypes};
 ghost use Rattle.typing.specs.Sends.{inhabited, Licensed, Sent};
 

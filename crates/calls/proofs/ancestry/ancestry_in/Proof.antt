@@ -3,7 +3,7 @@
 use borrow.Author.Needs.{needs}
 use mathlib.Core.Path.{refl, sym, _∙_}
 use mathlib.Core.Logic.{inl, inr}
-use Rattle.dispatch.proofs.Asked.{asked, answered}
+use Rattle.subclasses.proofs.Asked.{asked, answered}
 use Rattle.calls.proofs.Answered.{ancestry-absent, ancestry-answered}
 use Rattle.calls.proofs.ancestry.ancestry_in.Statement.{statement}
 use Rattle.calls.proofs.ancestry.ancestry_in.Tie as tie

@@ -7,7 +7,7 @@ use lib.ListN.{length}
 use lib.Seq.{length-take-le}
 use Rattle.rules.specs.Model.{modelOf}
 use Rattle.rules.specs.Calls.{rowOn}
-use Rattle.dispatch.specs.Send.{tupleOf}
+use Rattle.subclasses.specs.Send.{tupleOf}
 use Rattle.calls.proofs.Answered.{type-short, type-absent, type-answered, licensed-blank}
 use Rattle.calls.proofs.send_type.send_type_in.Statement.{statement}
 use Rattle.calls.proofs.send_type.send_type_in.Tie as tie

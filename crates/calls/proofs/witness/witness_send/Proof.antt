@@ -4,7 +4,7 @@ use borrow.Author.Needs.{needs}
 use borrow.Author.Tests.{not-true, not-false}
 use mathlib.Core.Path.{refl, sym, ap, _∙_}
 use lib.Seq.{length-take-le}
-use Rattle.dispatch.specs.Send.{tupleOf}
+use Rattle.subclasses.specs.Send.{tupleOf}
 use Rattle.calls.specs.Said.{ruleSaid}
 use Rattle.calls.proofs.Answered.{witness-unsent, witness-apart, witness-judged}
 use Rattle.calls.proofs.witness.witness_send.Statement.{statement}

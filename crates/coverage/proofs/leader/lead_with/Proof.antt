@@ -2,7 +2,7 @@
 -- Assumes nothing.
 use native.Mathlib.Omega.{arith}
 use mathlib.Core.Path.{refl, sym, _∙_}
-use Rattle.dispatch.proofs.Asked.{asked, answered}
+use Rattle.subclasses.proofs.Asked.{asked, answered}
 use Rattle.coverage.proofs.leader.lead_with.Statement.{statement}
 use Rattle.coverage.proofs.leader.lead_with.Tie as tie
 

@@ -15,7 +15,7 @@ use Rattle.rules.specs.Layout.{places, maxClasses}
 use Rattle.rules.specs.Model.{Model, modelOf}
 use Rattle.rules.proofs.Lists.{getD-mem}
 use Rattle.layout.proofs.Opened.{placed-of, counts-of, wellformed-of}
-use Rattle.dispatch.proofs.Asked.{class-below}
+use Rattle.subclasses.proofs.Asked.{class-below}
 use Rattle.coverage.specs.Search.{candidateClass, brokenCompletion, Ends}
 use Rattle.coverage.proofs.Leading.{alike-left, led-part}
 use Rattle.coverage.proofs.Narrowing.{chosen-more, filling-arguments, filling-places, filling-kept, filling-more}

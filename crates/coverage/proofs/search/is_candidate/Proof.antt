@@ -5,7 +5,7 @@ use mathlib.Core.Path.{refl, sym, _∙_}
 use borrow.Author.Needs.{needs}
 use borrow.Author.Tests.{not-true, not-false}
 use Rattle.layout.proofs.Opened.{counts-of}
-use Rattle.dispatch.proofs.Asked.{asked, answered}
+use Rattle.subclasses.proofs.Asked.{asked, answered}
 use Rattle.coverage.proofs.Narrowing.{abstract-class, concrete-class}
 use Rattle.coverage.proofs.search.is_candidate.Statement.{statement}
 use Rattle.coverage.proofs.search.is_candidate.Tie as tie

@@ -8,8 +8,8 @@ use borrow.Author.Needs.{needs}
 use Rattle.rules.specs.Model.{modelOf}
 use Rattle.rules.specs.Lookup.{found, lookup}
 use Rattle.layout.proofs.Opened.{counts-of, wellformed-of}
+use Rattle.subclasses.specs.Places.{Arguments}
 use Rattle.dispatch.specs.Found.{foundOf}
-use Rattle.dispatch.specs.Places.{Arguments}
 use Rattle.method_sets.specs.Sets.{LedBy}
 use Rattle.coverage.proofs.Leading.{lead-found}
 use Rattle.coverage.proofs.Narrowing.{filled-arguments, filling-places}

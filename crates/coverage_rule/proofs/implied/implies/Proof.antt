@@ -11,7 +11,7 @@ use Rattle.rules.specs.Model.{Model, modelOf, present}
 use Rattle.rules.specs.Subclass.{subclass, under}
 use Rattle.rules.specs.Alike.{implies}
 use Rattle.layout.proofs.Opened.{wellformed-of, counts-of}
-use Rattle.dispatch.proofs.Asked.{asked, answered, comparable, compared}
+use Rattle.subclasses.proofs.Asked.{asked, answered, comparable, compared}
 use Rattle.coverage_rule.proofs.implied.implies.Statement.{statement}
 use Rattle.coverage_rule.proofs.implied.implies.Tie as tie
 

@@ -5,7 +5,7 @@ use mathlib.Core.Path.{_≡_, refl, sym, _∙_}
 use borrow.Author.Tests.{not-true, not-false}
 use Rattle.rules.specs.Model.{modelOf}
 use Rattle.rules.specs.Subclass.{subclass, under}
-use Rattle.dispatch.proofs.Asked.{method-below, declared-long, declared-present, asked, answered, comparable, compared}
+use Rattle.subclasses.proofs.Asked.{method-below, declared-long, declared-present, asked, answered, comparable, compared}
 use Rattle.coverage_rule.specs.Judgements.{judgementOf}
 use Rattle.coverage_rule.proofs.Judging.{judge-declared, judge-result, judge-both}
 use Rattle.coverage_rule.proofs.judge.judge_method.Statement.{statement}

@@ -5,7 +5,7 @@ use Prim.Native.Nat.{ℕ}
 use mathlib.Core.Path.{ap, _∙_}
 use lib.ListN.{length}
 use Rattle.rules.specs.Calls.{runCall, scratchAfter}
-use Rattle.dispatch.specs.Send.{tupleOf}
+use Rattle.subclasses.specs.Send.{tupleOf}
 use Rattle.curiumtoad.proofs.Judging.{judged-alike, scratch-length, scratch-twice}
 use Rattle.curiumtoad.proofs.checked_run.checked_run.Statement.{statement}
 use Rattle.curiumtoad.proofs.checked_run.checked_run.Tie as tie

@@ -7,7 +7,7 @@ use borrow.Author.Tests.{not-true, not-false}
 use Rattle.rules.specs.Model.{modelOf}
 use Rattle.rules.specs.Calls.{used}
 use Rattle.bundle_rules.proofs.Opened.{opened-of}
-use Rattle.dispatch.specs.Send.{tupleOf}
+use Rattle.subclasses.specs.Send.{tupleOf}
 use Rattle.machine.specs.Outcome.{outcomeOf}
 use Rattle.calls.specs.Said.{runSaid}
 use Rattle.curiumtoad.proofs.Accepting.{accepted-check, ended-call, not-accepted, outcome-unstopped, sound-end, accepts-end, accepted-opens, accepted-prepared, answered-send, covered-opening, not-covered}

@@ -4,7 +4,7 @@ use borrow.Author.Needs.{needs}
 use mathlib.Core.Path.{sym}
 use lib.ListN.{length}
 use Rattle.rules.specs.Calls.{sendTypeIn, sendTypeCall, rowAfter}
-use Rattle.dispatch.specs.Send.{tupleOf}
+use Rattle.subclasses.specs.Send.{tupleOf}
 use Rattle.curiumtoad.proofs.Called.{refused-call, when-prepared, prepared-by, refusal-blank, refusal-row}
 use Rattle.curiumtoad.proofs.send_type.send_type.Statement.{statement}
 use Rattle.curiumtoad.proofs.send_type.send_type.Tie as tie

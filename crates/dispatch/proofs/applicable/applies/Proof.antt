@@ -3,7 +3,7 @@
 use borrow.Author.Needs.{needs}
 use mathlib.Core.Path.{refl, sym}
 use Rattle.rules.specs.Lookup.{applies}
-use Rattle.dispatch.proofs.Asked.{specialisers-long, specialisers-classes, comparable, compared}
+use Rattle.subclasses.proofs.Asked.{specialisers-long, specialisers-classes, comparable, compared}
 use Rattle.dispatch.proofs.applicable.applies.Statement.{statement}
 use Rattle.dispatch.proofs.applicable.applies.Tie as tie
 

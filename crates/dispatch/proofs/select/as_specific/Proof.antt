@@ -3,7 +3,7 @@
 use borrow.Author.Needs.{needs}
 use mathlib.Core.Path.{sym, _∙_}
 use Rattle.rules.specs.Lookup.{asSpecific}
-use Rattle.dispatch.proofs.Asked.{specialisers-long, specialisers-classes, comparable, compared}
+use Rattle.subclasses.proofs.Asked.{specialisers-long, specialisers-classes, comparable, compared}
 use Rattle.dispatch.proofs.select.as_specific.Statement.{statement}
 use Rattle.dispatch.proofs.select.as_specific.Tie as tie
 

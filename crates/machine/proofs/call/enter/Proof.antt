@@ -8,7 +8,7 @@ use borrow.Author.Tests.{not-true, not-false}
 use Rattle.rules.specs.Model.{modelOf}
 use Rattle.rules.specs.Machine.{made, resume, maxFrames}
 use Rattle.layout.proofs.Opened.{counts-of, wellformed-of}
-use Rattle.dispatch.proofs.Asked.{of-arity}
+use Rattle.subclasses.proofs.Asked.{of-arity}
 use Rattle.machine.specs.Held.{callersOf, resumed, Held}
 use Rattle.machine.specs.Endings.{turnOf, endingOf}
 use Rattle.machine.proofs.Stores.{waiting-few, has-frame, has-stack}

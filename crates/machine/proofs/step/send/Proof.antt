@@ -8,7 +8,7 @@ use borrow.Author.Needs.{needs}
 use Rattle.rules.specs.Model.{modelOf, send}
 use Rattle.rules.specs.Machine.{call}
 use Rattle.layout.proofs.Opened.{counts-of, wellformed-of}
-use Rattle.dispatch.specs.Places.{Arguments}
+use Rattle.subclasses.specs.Places.{Arguments}
 use Rattle.frames.specs.Arrays.{heightAt}
 use Rattle.machine.specs.Held.{callersOf, turnAt, Waiting}
 use Rattle.machine.specs.Endings.{turnOf, endingOf}

@@ -6,7 +6,7 @@ use mathlib.Core.Path.{sym}
 use Rattle.rules.specs.Layout.{places}
 use Rattle.rules.specs.Model.{modelOf}
 use Rattle.layout.proofs.Opened.{placed-of}
-use Rattle.dispatch.proofs.Asked.{filled-long}
+use Rattle.subclasses.proofs.Asked.{filled-long}
 use Rattle.method_sets.specs.Sets.{TabledTo}
 use Rattle.method_sets.proofs.Rows.{column-room, column-long, column-classes, tabled-more}
 use Rattle.method_sets.proofs.table.fill_table.Statement.{statement}

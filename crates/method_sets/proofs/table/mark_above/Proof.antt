@@ -6,7 +6,7 @@ use mathlib.Core.Path.{_≡_, ap, _∙_}
 use lib.ListN.{length, getD}
 use Rattle.rules.specs.Bytes.{byte}
 use Rattle.rules.specs.Calls.{bit}
-use Rattle.dispatch.specs.Matrix.{entryAt}
+use Rattle.subclasses.specs.Matrix.{entryAt}
 use Rattle.method_sets.specs.Sets.{Marked}
 use Rattle.method_sets.proofs.Marks.{marked-none, marked-more}
 use Rattle.method_sets.proofs.table.mark_above.Statement.{statement}

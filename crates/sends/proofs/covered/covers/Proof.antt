@@ -2,7 +2,7 @@
 -- Assumes nothing.
 use mathlib.Core.Path.{refl, sym, _∙_}
 use Rattle.rules.specs.Coverage as rules
-use Rattle.dispatch.proofs.Asked.{comparable, compared}
+use Rattle.subclasses.proofs.Asked.{comparable, compared}
 use Rattle.sends.proofs.Signatures.{signature-present, signature-long}
 use Rattle.sends.proofs.covered.covers.Statement.{statement}
 use Rattle.sends.proofs.covered.covers.Tie as tie

@@ -11,7 +11,7 @@ use lib.ListN.{length, getD}
 use Rattle.rules.specs.Bytes.{byte}
 use Rattle.rules.specs.Model.{modelOf}
 use Rattle.layout.proofs.Opened.{counts-of}
-use Rattle.dispatch.proofs.Asked.{class-below}
+use Rattle.subclasses.proofs.Asked.{class-below}
 use Rattle.sends.proofs.Sent.{concrete-decides}
 use Rattle.sends.proofs.send.all_concrete.Statement.{statement}
 use Rattle.sends.proofs.send.all_concrete.Tie as tie

@@ -1,7 +1,7 @@
 -- `typing::body::end` meets its contract: the one row's byte for the result class decides.
 -- Assumes nothing.
 use native.Mathlib.Omega.{arith}
-use Rattle.dispatch.proofs.Entry.{classes-fit}
+use Rattle.subclasses.proofs.Entry.{classes-fit}
 use Rattle.typing.proofs.Bodies.{ended-other, ended-miss, ended-typed}
 use borrow.Author.Needs.{needs}
 use Rattle.typing.proofs.body.end.Statement.{statement}

@@ -9,7 +9,7 @@ use lib.Seq.{take-all}
 use Rattle.rules.specs.Bytes.{byte}
 use Rattle.rules.specs.Model.{modelOf}
 use Rattle.layout.proofs.Opened.{counts-of}
-use Rattle.dispatch.proofs.Asked.{class-below}
+use Rattle.subclasses.proofs.Asked.{class-below}
 use Rattle.typing.specs.Rows.{Rows, classTypes}
 use Rattle.typing.proofs.Rows.{lent-long, lent-back, stacked-length}
 use Rattle.typing.proofs.Classes.{class-rows-none, class-rows-more}

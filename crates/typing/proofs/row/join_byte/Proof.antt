@@ -4,7 +4,7 @@ use native.Mathlib.Omega.{arith}
 use mathlib.Core.Path.{_≡_, refl, sym, _∙_}
 use Rattle.rules.specs.Model.{modelOf}
 use Rattle.rules.specs.Subclass.{subclass}
-use Rattle.dispatch.proofs.Asked.{asked, answered}
+use Rattle.subclasses.proofs.Asked.{asked, answered}
 use Rattle.typing.proofs.Rows.{joined-absent, joined-hit, joined-miss}
 use Rattle.typing.proofs.row.join_byte.Statement.{statement}
 use Rattle.typing.proofs.row.join_byte.Tie as tie

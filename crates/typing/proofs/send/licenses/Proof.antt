@@ -7,7 +7,7 @@ use mathlib.Core.Path.{_≡_, sym, ap, _∙_}
 use lib.ListN.{length}
 use Rattle.rules.specs.Model.{modelOf}
 use Rattle.layout.proofs.Opened.{counts-of, wellformed-of}
-use Rattle.dispatch.proofs.Entry.{classes-fit}
+use Rattle.subclasses.proofs.Entry.{classes-fit}
 use Rattle.typing.proofs.Sends.{Passed, passed-none, passed-more, licensed-other, licensed-broken, licensed-all}
 use Rattle.typing.proofs.send.licenses.Statement.{statement}
 use Rattle.typing.proofs.send.licenses.Tie as tie

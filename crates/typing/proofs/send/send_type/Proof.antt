@@ -4,7 +4,7 @@ use native.Mathlib.Omega.{arith}
 use mathlib.Core.Path.{_∙_}
 use Rattle.rules.specs.Model.{modelOf}
 use Rattle.layout.proofs.Opened.{counts-of}
-use Rattle.dispatch.proofs.Asked.{arguments-places}
+use Rattle.subclasses.proofs.Asked.{arguments-places}
 use Rattle.typing.proofs.Classes.{class-types-length}
 use Rattle.typing.proofs.Sends.{left-row}
 use borrow.Author.Needs.{needs}

@@ -1,0 +1,113 @@
+-- What the matrix of a prepared call answers: one class under another, and tuples of classes place by place.
+-- Assumes nothing.
+use Prim.Native.Nat.{ℕ, _≤_, _<_}
+use native.Mathlib.Omega.{arith}
+use mathlib.Core.Path.{_≡_, refl, sym, ap, ap₂, _∙_}
+use mathlib.Core.Bool.{Bool, true, _&&_}
+use mathlib.Core.List.{List, [], _∷_}
+use lib.Dec.{ltb}
+use lib.ListN.{length, getD}
+use borrow.Author.Tests.{ltb-true}
+use Rattle.rules.specs.Bounded.{every, matching}
+use Rattle.rules.specs.Layout.{places}
+use Rattle.rules.specs.Model.{Model, modelOf, present}
+use Rattle.rules.specs.Subclass.{subclass, under}
+use Rattle.rules.specs.Calls.{scratchBytes, matrixStride}
+use Rattle.rules.proofs.Lists.{every-place, and-left, and-right}
+use Rattle.layout.specs.Opened.{Opened}
+use Rattle.layout.specs.declared.bundle.Bundle.{Bundle}
+use Rattle.layout.proofs.Opened.{wellformed-of, counts-of}
+use Rattle.subclasses.specs.Matrix.{Filled, filled, entryAt, entriesAt}
+use Rattle.subclasses.specs.Prepared.{Prepared}
+use Rattle.subclasses.specs.Places.{Arguments, OfArity, InMatrix, Comparable}
+use Rattle.subclasses.proofs.Entry.{filled-read}
+
+pub filled-long : {M : Model} {s : List ℕ} → Filled M s → scratchBytes ≤ length s
+filled-long (filled f) = f .long
+
+-- each of a list of classes is one
+pub class-below : (M : Model) (xs : List ℕ) → present M xs ≡ true → (i : ℕ) → i < length xs → getD xs i 0 < M .classes
+unfolding present
+class-below M xs e i l = ltb-true (getD xs i 0) (M .classes) (every-place (λ c. ltb c (M .classes)) xs 0 e i l)
+
+present-cons : (M : Model) (x : ℕ) (xs : List ℕ) → present M (x ∷ xs) ≡ true → (x < M .classes) × (present M xs ≡ true)
+unfolding present every
+present-cons M x xs e =
+    (ltb-true x (M .classes) (and-left (ltb x (M .classes)) (present M xs) e), and-right (ltb x (M .classes)) (present M xs) e)
+
+module _ {b : List ℕ} {t : Bundle} (o : Opened b t) where
+  pub in-matrix : (xs : List ℕ) → present (modelOf b) xs ≡ true → InMatrix xs
+  in-matrix xs e i l = omega (arith, class-below (modelOf b) xs e i l, wellformed-of o .classes-limit)
+
+  -- a number below a count of the tables is one of the model's
+  pub of-arity : {f n m : ℕ} → n ≡ modelOf b .arity f → m < t .methods → modelOf b .function m ≡ f → OfArity (modelOf b) n m
+  of-arity e h q = record { bound = omega (arith, counts-of o .methods); arity = e ∙ sym (ap (modelOf b .arity) q) }
+
+  -- the arguments of a send are no more than the layout has places
+  pub arguments-places : {f : ℕ} {args : List ℕ} → Arguments (modelOf b) f args → length args ≤ places
+  arguments-places {f} g = omega (arith, g .arity, wellformed-of o .arity-limit f (g .function))
+
+  -- a method's tuples are as long as its function has arguments, and no longer than the layout has places
+  module _ {n m : ℕ} (h : OfArity (modelOf b) n m) where
+    pub method-below : m < t .methods
+    method-below = omega (arith, counts-of o .methods)
+
+    pub method-places : n ≤ places
+    method-places =
+        let w = wellformed-of o in
+        omega (arith, w .arity-limit (modelOf b .function m) (w .function-present m (h .bound)))
+
+    pub specialisers-long : length (modelOf b .specialisers m) ≡ n
+    specialisers-long = wellformed-of o .specialiser-places m (h .bound) ∙ sym (h .arity)
+
+    pub specialisers-classes : present (modelOf b) (modelOf b .specialisers m) ≡ true
+    specialisers-classes = wellformed-of o .specialisers-present m (h .bound)
+
+    pub declared-long : length (modelOf b .declared m) ≡ n
+    declared-long = wellformed-of o .declared-places m (h .bound) ∙ sym (h .arity)
+
+    pub declared-present : present (modelOf b) (modelOf b .declared m) ≡ true
+    declared-present = wellformed-of o .declared-present m (h .bound)
+
+module _ {b : List ℕ} {t : Bundle} {s : List ℕ} (p : Prepared b t s) where
+  -- what `under` requires of two classes of the bundle
+  pub asked : (a c : ℕ) → a < t .classes → c < t .classes → (scratchBytes ≤ length s) × ((a < matrixStride) × (c < matrixStride))
+  asked a c h k =
+      let counts = counts-of (p .opened) in
+      let limit = wellformed-of (p .opened) .classes-limit in
+      (filled-long (p .filled), (omega arith, omega arith))
+
+  -- the entry of two classes says whether the one is under the other
+  entry-subclass : (a c : ℕ) → a < modelOf b .classes → c < modelOf b .classes → entryAt s a c ≡ subclass (modelOf b) a c
+  unfolding entryAt
+  entry-subclass a c h k =
+      let limit = wellformed-of (p .opened) .classes-limit in
+      filled-read (modelOf b) s a c (p .filled) (omega arith) (omega arith) h k
+
+  entries-under : (xs ys : List ℕ) → present (modelOf b) xs ≡ true → present (modelOf b) ys ≡ true → entriesAt s xs ys ≡ under (modelOf b) xs ys
+  unfolding entriesAt under matching
+  entries-under [] [] h k = refl
+  entries-under [] (y ∷ ys) h k = refl
+  entries-under (x ∷ xs) [] h k = refl
+  entries-under (x ∷ xs) (y ∷ ys) h k =
+      let M = modelOf b in
+      let u = present-cons M x xs h in
+      let v = present-cons M y ys k in
+      ap₂ _&&_ (entry-subclass x y (u .0) (v .0)) (entries-under xs ys (u .1) (v .1))
+
+  -- and what it gives
+  pub answered : {a c : ℕ} {r : Bool} → r ≡ entryAt s a c → a < t .classes → c < t .classes → {x y : ℕ} → a ≡ x → c ≡ y
+      → r ≡ subclass (modelOf b) x y
+  answered {a} {c} u h k e g =
+      let counts = counts-of (p .opened) in
+      u ∙ entry-subclass a c (omega arith) (omega arith) ∙ ap₂ (subclass (modelOf b)) e g
+
+  -- the same of two tuples, which are known by equations
+  module _ {xs ys : List ℕ} (h : present (modelOf b) xs ≡ true) (k : present (modelOf b) ys ≡ true) where
+    pub comparable : {ps qs : List ℕ} → ps ≡ xs → qs ≡ ys → length xs ≡ length ys → Comparable s ps qs
+    comparable e g q =
+        rw (e, g)
+        (record { long = filled-long (p .filled); even = q; lower = in-matrix (p .opened) xs h; upper = in-matrix (p .opened) ys k })
+
+    pub compared : {ps qs : List ℕ} {r : Bool} → ps ≡ xs → qs ≡ ys → r ≡ entriesAt s ps qs → r ≡ under (modelOf b) xs ys
+    compared e g u = u ∙ ap₂ (entriesAt s) e g ∙ entries-under xs ys h k

@@ -1,0 +1,14 @@
+-- `subclasses::matrix::under` meets its contract: the byte asked is the entry of the matrix.
+-- Assumes nothing.
+use borrow.Author.Needs.{needs}
+use mathlib.Core.Path.{refl}
+use Rattle.subclasses.specs.Matrix.{entryAt}
+use Rattle.subclasses.proofs.matrix.under.Statement.{statement}
+use Rattle.subclasses.proofs.matrix.under.Tie as tie
+
+returns : tie.Need-returns
+unfolding entryAt
+returns c = refl
+
+pub under-spec : {M : Type 1} → statement M
+under-spec = tie.close (tie.spec (λ c. search needs) (λ c. search needs) (λ c. search needs) returns)

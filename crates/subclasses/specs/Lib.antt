@@ -1,0 +1,4 @@
+pub mod Matrix
+pub mod Prepared
+pub mod Places
+pub mod Send
