@@ -65,6 +65,28 @@ def moved(content, stated, record, later, longer):
 
 
 ABSTRACT, CONCRETE = 0, 1
+
+
+def chain(count):
+    """classes of one parent each"""
+    return [(CONCRETE, [k - 1] if k else []) for k in range(count)]
+
+
+def flat(count):
+    """concrete classes that have class 0 as their one parent"""
+    return [(CONCRETE, [0] if k else []) for k in range(count)]
+
+
+def of_methods(classes, arities, signatures, methods):
+    """a bundle whose methods, each a function with specialisers and declared classes, make an object of the last class"""
+    return bundle(classes, arities, signatures, [(*own, 0, [(NEW, len(classes) - 1)]) for own in methods])
+
+
+def applying(classes, arities, methods):
+    """a bundle of these methods, each a function with specialisers"""
+    return of_methods(classes, arities, [], [(f, places, places) for f, places in methods])
+
+
 CHART = [(ABSTRACT, []), (CONCRETE, [0]), (CONCRETE, [1]), (CONCRETE, [0]), (CONCRETE, [3]), (ABSTRACT, [0]), (CONCRETE, [5]), (CONCRETE, [5])]
 CHART_METHODS = [(0, args, args, result, [(NEW, result)]) for args, result in [([1, 4], 6), ([2, 3], 7), ([1, 3], 6), ([2, 4], 7)]]
 
@@ -122,6 +144,10 @@ SAMPLES = {
     "three-rivals": bundle(
         [(ABSTRACT, []), (ABSTRACT, [0]), *[(ABSTRACT, [1])] * 3, (CONCRETE, [2, 3, 4])], [1], [(0, [0], 0)],
         [(0, [c], [c], 0, [(NEW, 5)]) for c in [2, 3, 1, 4, 0]]),
+    # Under class 2 are 3 and 4, under class 1 those and 5, under class 0 those and 6.
+    "upper-classes": bundle(
+        [(ABSTRACT, []), (ABSTRACT, [0]), (ABSTRACT, [1]), (CONCRETE, [2]), (CONCRETE, [2]), (CONCRETE, [1]), (CONCRETE, [0]), (ABSTRACT, [0])],
+        [1], [(0, [1], 1)], [(0, [c], [c], c, [(ARG, 0)]) for c in [1, 2]]),
 }
 
 
@@ -192,6 +218,9 @@ SHOWN = {
     "102-methods": (
         "accepted: its chart has `*`, `-` and methods of three digits, and there is no signature to cover a send",
         ["classes 13 functions 1 signatures 0 methods 102", "accepted"]),
+    "upper-classes": (
+        "accepted: all concrete classes under 2 find one method, those under 1 several, one under 0 finds no method, and 7 has no concrete class under it",
+        ["classes 8 functions 1 signatures 1 methods 2", "accepted"]),
     "23-bytes": (
         "refused by 1: a byte short of a directory",
         ["refused 1"]),

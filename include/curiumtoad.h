@@ -88,7 +88,8 @@ enum curiumtoad_number {
     CURIUMTOAD_SHORT_BUFFER = 20,    /* the row, or the buffer of a listing */
     CURIUMTOAD_NOT_BINARY = 21,      /* a chart of a function that has not two arguments */
     CURIUMTOAD_NO_LINE = 22,         /* a line past the last of the chart */
-    CURIUMTOAD_SHORT_LINE = 23       /* the buffer of a line */
+    CURIUMTOAD_SHORT_LINE = 23,      /* the buffer of a line */
+    CURIUMTOAD_NO_CONCRETE = 24      /* an upper class with no concrete class under it */
 };
 
 /* Which of the values holds what. */
@@ -110,6 +111,10 @@ enum curiumtoad_place {
     /* listing; chart */
     CURIUMTOAD_AT_TEXT_LENGTH = 0,
     CURIUMTOAD_AT_LINE_LENGTH = 0,
+
+    /* rough: the answer, and the method where it is one */
+    CURIUMTOAD_AT_ROUGH = 0,
+    CURIUMTOAD_AT_ROUGH_METHOD = 1,
 
     /* run and run_accepted; the steps of a run that began are there however it ends */
     CURIUMTOAD_AT_ENDING = 0,
@@ -144,6 +149,13 @@ enum curiumtoad_place {
     CURIUMTOAD_AT_REASON = 0
 };
 
+/* What a rough call answers. */
+enum curiumtoad_rough_answer {
+    CURIUMTOAD_ROUGH_ONE = 0,        /* every tuple finds the method at CURIUMTOAD_AT_ROUGH_METHOD */
+    CURIUMTOAD_ROUGH_MAY_FAIL = 1,   /* a lookup of some tuple gives 10 or 11, whatever the others find */
+    CURIUMTOAD_ROUGH_SEVERAL = 2     /* every tuple finds a method, and not all find the same */
+};
+
 /* How a run ends that nothing stopped. */
 enum curiumtoad_ending {
     CURIUMTOAD_ENDING_VALUE = 0,     /* with a value, whose class is at CURIUMTOAD_AT_CLASS */
@@ -170,6 +182,13 @@ uint8_t curiumtoad_ancestry(const uint8_t *bundle, size_t size, uint8_t *scratch
 /* Lookup, abstract classes too. 0: the method that the send finds. Else 1 to 11, 18, 19. */
 uint8_t curiumtoad_lookup(const uint8_t *bundle, size_t size, uint8_t *scratch, size_t scratch_size,
                           uint64_t function, uint64_t a0, uint64_t a1, uint64_t a2, uint64_t *values);
+
+/* A send whose arguments are known only roughly: each is under the upper class at its place, a0, a1 or a2, which may be abstract. Every tuple counts that has a
+ * concrete class under the upper one at each place, the upper one itself where it is concrete; a function of no arguments has the empty tuple alone. 0: by
+ * what a lookup of each tuple finds, one method, may fail, or several; signatures and declared classes play no part. Where the upper classes give way to
+ * classes under them and the call still answers, one stays that method, and several becomes several or one. Else 1 to 9, 18, 19, 24. */
+uint8_t curiumtoad_rough(const uint8_t *bundle, size_t size, uint8_t *scratch, size_t scratch_size,
+                         uint64_t function, uint64_t a0, uint64_t a1, uint64_t a2, uint64_t *values);
 
 /* The static type of a send with arguments of these classes. 0: byte b of the first 128 of the row is 1 where class b is in the type, else 0.
  * Else 1 to 9, 16, 18, 19, 20, and the row is as it was. */

@@ -1,13 +1,16 @@
-"""The rules for opening, the body view and reader, ancestry, lookup and charts, and for which sends signatures cover, written without the library."""
+"""The rules for opening, the body view and reader, ancestry, lookup, charts and arguments known only by upper classes, and for which sends signatures
+cover, written without the library."""
 import functools
 import itertools
 
 LONGEST = 65535
 CLASSES, FUNCTIONS, SIGNATURES, METHODS, PLACES = 128, 64, 256, 512, 3
-ABSENT, SHORT, SHORT_ROW, NOT_BINARY, NO_LINE, SHORT_BUFFER = range(18, 24)
+ABSENT, SHORT, SHORT_ROW, NOT_BINARY, NO_LINE, SHORT_BUFFER, NONE_CONCRETE = range(18, 25)
 MATRIX = 16384
 # What a chart shows where lookup gives one of these numbers.
 MARKS = {10: "-", 11: "*"}
+# The first value of what is said where only upper classes are known.
+ONE, MAY_FAIL, SEVERAL = range(3)
 
 
 def word(data, at):
@@ -156,11 +159,23 @@ def arity_of(bundle, function):
     return bundle[spans(bundle)[2][0] + function]
 
 
+def is_there(bundle, function, *places):
+    """whether the function is there, a class at each of its places, and 0 at the others"""
+    if function >= spans(bundle)[2][1]:
+        return False
+    arity = arity_of(bundle, function)
+    return all(c < len(above(bundle)) for c in places[:arity]) and not any(places[arity:])
+
+
+def methods_of(bundle, function):
+    """from each method of a function to its specialisers"""
+    arity, (at, length) = arity_of(bundle, function), spans(bundle)[4]
+    return {m: record[1:1 + arity] for m, record in enumerate(records(bundle[at:][:length], 12)) if record[0] == function}
+
+
 def applicable(bundle, function, *places):
     """from each method that applies to a send to its specialisers"""
-    arity, (at, length) = arity_of(bundle, function), spans(bundle)[4]
-    methods = {m: record[1:1 + arity] for m, record in enumerate(records(bundle[at:][:length], 12)) if record[0] == function}
-    return {m: own for m, own in methods.items() if all_under(bundle, places, own)}
+    return {m: own for m, own in methods_of(bundle, function).items() if all_under(bundle, places, own)}
 
 
 def rivals(bundle, function, *places):
@@ -169,19 +184,21 @@ def rivals(bundle, function, *places):
     return [m for m, own in reversed(methods.items()) if not any(all_under(bundle, others, own) for o, others in methods.items() if o != m)]
 
 
+def leading(bundle, methods):
+    """of methods with their specialisers the one that is at least as specific as all, or none"""
+    return [m for m, own in methods.items() if all(all_under(bundle, own, others) for others in methods.values())]
+
+
 def lookup(bundle, function, *places):
     """number and values, of an opened bundle: the method found; or the function and the places, with the two newest rivals for 11, the newer first"""
-    if function >= spans(bundle)[2][1]:
-        return ABSENT, []
-    arity = arity_of(bundle, function)
-    if any(c >= len(above(bundle)) for c in places[:arity]) or any(places[arity:]):
+    if not is_there(bundle, function, *places):
         return ABSENT, []
     methods = applicable(bundle, function, *places)
     if not methods:
         return 10, [function, *places]
-    leading = [m for m, own in methods.items() if all(all_under(bundle, own, others) for others in methods.values())]
-    if leading:
-        return 0, leading
+    found = leading(bundle, methods)
+    if found:
+        return 0, found
     return 11, [function, *places, *rivals(bundle, function, *places)[:2]]
 
 
@@ -240,7 +257,32 @@ def chart(bundle, function, line, buffer):
     return (0, [length]) if buffer >= length else (SHORT_BUFFER, [])
 
 
-ASKED = {"ancestry": ancestry, "lookup": lookup, "chart": chart}
+def below(bundle, function, *uppers):
+    """for each place that the function uses the concrete classes under the upper class there"""
+    return [[c for c in concretes(bundle) if upper in above(bundle)[c]] for upper in uppers[:arity_of(bundle, function)]]
+
+
+def rough(bundle, function, *uppers):
+    """number and values, of an opened bundle: ONE and the method, where every tuple of concrete classes under the upper ones finds that; MAY_FAIL where
+    one finds none or two; else SEVERAL"""
+    if not is_there(bundle, function, *uppers):
+        return ABSENT, []
+    candidates = below(bundle, function, *uppers)
+    if not all(candidates):
+        return NONE_CONCRETE, []
+    methods = methods_of(bundle, function)
+    # What a tuple finds depends only on which methods apply to it. The sets of those are few where the tuples are many.
+    applying = {frozenset(methods)}
+    for place, classes in enumerate(candidates):
+        held = {frozenset(m for m, own in methods.items() if own[place] in above(bundle)[c]) for c in classes}
+        applying = {some & others for some, others in itertools.product(applying, held)}
+    found = {tuple(leading(bundle, {m: methods[m] for m in some})) for some in applying}
+    if () in found:
+        return 0, [MAY_FAIL]
+    return 0, [ONE, *found.pop()] if len(found) == 1 else [SEVERAL]
+
+
+ASKED = {"ancestry": ancestry, "lookup": lookup, "chart": chart, "rough": rough}
 
 
 def asked(bundle, scratch, kind, *numbers):

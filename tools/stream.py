@@ -13,8 +13,9 @@ SCRATCH = 17000
 ROW = 660
 # The entry points in the order of their codes, and those that take scratch.
 ENTRIES = [
-    "opening", "view", "instruction", "reading", "ancestry", "lookup", "send type", "check", "witness", "run", "accepted run", "listing", "chart"]
-SCRATCHED = [*ENTRIES[4:11], "chart"]
+    "opening", "view", "instruction", "reading", "ancestry", "lookup", "send type", "check", "witness", "run", "accepted run", "listing", "chart",
+    "rough"]
+SCRATCHED = [*ENTRIES[4:11], *ENTRIES[12:]]
 
 
 class Call(NamedTuple):

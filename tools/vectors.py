@@ -10,12 +10,14 @@ usage: tools/vectors.py FOLDER          write them, from the vectors of FOLDER (
 Vectors in a folder whose name is two digits follow the rules with the requests up to that number, those in any other folder the rules before the first
 request. Answers that a later request changed are brought to the rules as they stand where vectors are read (earlier.py).
 
-The rules for opening, ancestry, lookup and charts stand a second time in rules.py. They give the answers for bundles that no vector has, and every
-vector is held to them, so that an answer on which the two differ is never passed on. The other answers, of runs, checks, send types and witnesses,
-are taken from the vectors and the rules' own cases; those for bundles made here are worked out by hand from its rules. The answers of accepted
-runs follow from those of the run and the check and from which signatures cover the send.
+The rules for opening, ancestry, lookup, charts and arguments known only by upper classes stand a second time in rules.py. They give the answers for
+bundles that no vector has, and every vector is held to them, so that an answer on which the two differ is never passed on; so are the answers worked
+out by hand in uppers.py. The other answers, of runs, checks, send types and witnesses, are taken from the vectors and the rules' own cases; those for
+bundles made here are worked out by hand from its rules. The answers of accepted runs follow from those of the run and the check and from which
+signatures cover the send.
 """
 import itertools
+import math
 import pathlib
 import sys
 
@@ -23,32 +25,19 @@ ROOT = pathlib.Path(__file__).resolve().parent.parent
 sys.dont_write_bytecode = True
 sys.path.insert(0, str(ROOT / "bundles"))
 import make  # noqa: E402
+import uppers  # noqa: E402
 from earlier import entries, write_current  # noqa: E402
 from made import write_or_check  # noqa: E402
+from make import applying, chain, flat, of_methods  # noqa: E402
 from rules import (  # noqa: E402
-    ABSENT, ASKED, CLASSES, FUNCTIONS, LONGEST, MATRIX, METHODS, PLACES, SHORT, SHORT_ROW, SIGNATURES, arity_of, asked, chart_line, chart_lines,
-    instruction, is_covered, opening, reading, refused, spans, view)
+    ABSENT, ASKED, CLASSES, FUNCTIONS, LONGEST, MATRIX, MAY_FAIL, METHODS, ONE, PLACES, SEVERAL, SHORT, SHORT_ROW, SIGNATURES, arity_of, asked, below,
+    chart_line, chart_lines, instruction, is_covered, lookup, opening, reading, refused, spans, view)
 from stream import ROW, SCRATCH, SCRATCHED, Call, ended, one, reply, stream_of, tally  # noqa: E402
 
 MOST = 2**32 - 1
 
 
 # Bundles that no vector has
-
-
-def chain(count):
-    """classes of one parent each"""
-    return [(make.CONCRETE, [k - 1] if k else []) for k in range(count)]
-
-
-def flat(count):
-    """concrete classes that have class 0 as their one parent"""
-    return [(make.CONCRETE, [0] if k else []) for k in range(count)]
-
-
-def of_methods(classes, arities, signatures, methods):
-    """a bundle whose methods, each a function with specialisers and declared classes, make an object of the last class"""
-    return make.bundle(classes, arities, signatures, [(*own, 0, [(make.NEW, len(classes) - 1)]) for own in methods])
 
 
 def at_limits(classes, filled=0):
@@ -214,17 +203,12 @@ def in_bucket(number):
     return list(itertools.islice((places for places in every if bucket(0, places) == number), METHODS))
 
 
-def applying(classes, arities, methods):
-    """a bundle of these methods, each a function with specialisers"""
-    return of_methods(flat(classes), arities, [], [(f, places, places) for f, places in methods])
-
-
 def twinned(classes, specialisers, *pairs):
     """a bundle of methods of one function; the second of each pair has the specialisers of the first"""
     places = list(specialisers)
     for earlier, later in pairs:
         places[later] = places[earlier]
-    return applying(classes, [len(places[0])], [(0, own) for own in places])
+    return applying(flat(classes), [len(places[0])], [(0, own) for own in places])
 
 
 def twins():
@@ -250,21 +234,21 @@ def twins():
     two = [(0, (0,)), (9, (2,))]
     assert {bucket(0, places) for places in few} == {bucket(*own) for own in two} == {0}
     yield twinned(10, few), 0, [10, 1, 0, 3]
-    yield applying(3, [1] * 10, two), 0, [3, 10, 0, 2]
+    yield applying(flat(3), [1] * 10, two), 0, [3, 10, 0, 2]
     for places in few:
         yield twinned(10, [*few, places]), 8, [3]
     for own in two:
-        yield applying(3, [1] * 10, [*two, own]), 8, [2]
+        yield applying(flat(3), [1] * 10, [*two, own]), 8, [2]
     # The same specialisers for every function; the same bytes for functions of no argument to three.
     every = [(f, (c,)) for c in range(8) for f in range(FUNCTIONS)]
-    yield applying(8, [1] * FUNCTIONS, every), 0, [8, FUNCTIONS, 0, METHODS]
-    yield applying(1, range(PLACES + 1), [(f, (0,) * f) for f in range(PLACES + 1)]), 0, [1, PLACES + 1, 0, PLACES + 1]
+    yield applying(flat(8), [1] * FUNCTIONS, every), 0, [8, FUNCTIONS, 0, METHODS]
+    yield applying(flat(1), range(PLACES + 1), [(f, (0,) * f) for f in range(PLACES + 1)]), 0, [1, PLACES + 1, 0, PLACES + 1]
     # Fewer arguments than three: two, one, none.
     yield twinned(23, list(itertools.product(range(23), repeat=2))[:METHODS], (0, last)), 8, [last]
     yield twinned(10, [(0, 0), (9, 2), (0, 0)]), 8, [2]
-    yield applying(8, [1] * FUNCTIONS, [*every[:-1], every[FUNCTIONS - 1]]), 8, [last]
+    yield applying(flat(8), [1] * FUNCTIONS, [*every[:-1], every[FUNCTIONS - 1]]), 8, [last]
     for f in [0, FUNCTIONS - 1]:
-        yield applying(1, [0] * FUNCTIONS, [(g, ()) for g in [*range(FUNCTIONS), f]]), 8, [FUNCTIONS]
+        yield applying(flat(1), [0] * FUNCTIONS, [(g, ()) for g in [*range(FUNCTIONS), f]]), 8, [FUNCTIONS]
     # Twins that differ in all else; methods that differ in their specialisers alone.
     yield make.bundle(flat(2), [1], [], [(0, [0], [0], 0, [(make.NEW, 0)]), (0, [0], [1], 1, [(make.ARG, 0)] * 2)]), 8, [1]
     yield make.bundle(flat(2), [1], [], [(0, [c], [0], 0, [(make.NEW, 0)]) for c in range(2)]), 0, [2, 1, 0, 2]
@@ -379,7 +363,7 @@ def held(bundle, answer, second):
 
 
 # The later parts of the rules that have vectors of their own, beside those of the folder itself.
-LATER = ["requests/01", "requests/02", "requests/03", "requests/04"]
+LATER = ["requests/01", "requests/02", "requests/03", "requests/04", "requests/05"]
 
 
 def vectors(folder, name):
@@ -469,22 +453,28 @@ P_CASES = [
 ]
 
 
-def every_question(bundle):
-    """(kind, numbers) for each pair of classes and each function with each tuple, and with numbers that are absent or out of place"""
+def every_send(bundle):
+    """the numbers of each function with each tuple, and such as are absent or out of place"""
     classes, functions = opening(bundle)[1][:2]
-    for a, b in itertools.product([*range(classes), CLASSES, LONGEST], repeat=2):
-        yield "ancestry", [a, b]
     for function in range(functions):
         arity = arity_of(bundle, function)
         unused = [0] * (PLACES - arity)
         for places in itertools.product(range(classes), repeat=arity):
-            yield "lookup", [function, *places, *unused]
+            yield [function, *places, *unused]
         # One place after the other holds a class that is not there, or 1 where none may be.
         for place in range(PLACES):
             for number in [classes, CLASSES, LONGEST] if place < arity else [1, LONGEST]:
-                yield "lookup", [function, *(number if i == place else 0 for i in range(PLACES))]
+                yield [function, *(number if i == place else 0 for i in range(PLACES))]
     for function in [functions, FUNCTIONS, LONGEST]:
-        yield "lookup", [function, 0, 0, 0]
+        yield [function, 0, 0, 0]
+
+
+def every_question(bundle):
+    """(kind, numbers) for each pair of classes, absent ones too, and each send"""
+    for a, b in itertools.product([*range(opening(bundle)[1][0]), CLASSES, LONGEST], repeat=2):
+        yield "ancestry", [a, b]
+    for numbers in every_send(bundle):
+        yield "lookup", numbers
 
 
 def lookup_answers(folder):
@@ -768,6 +758,65 @@ def chart_cases(folder):
     yield from turned_away(folder, "chart", [0, 0], rows=(ROW, 0))
 
 
+# What a vector says of upper classes, in the order of the values.
+SAID = ["one", "may fail", "several"]
+
+
+def rough_answers(folder):
+    """(bundle, scratch, numbers, number, values)"""
+    for entry, bundle in vectors(folder, "rough.jsonl"):
+        for call in entry["calls"]:
+            answer = call["answer"]
+            values = [SAID.index(answer["answer"]), answer.get("method", 0)] if "answer" in answer else answer["values"]
+            yield bundle, SCRATCH, call["rough"], answer["number"], values
+    for bundle, numbers, answer in uppers.cases():
+        yield bundle, SCRATCH, numbers, *answer
+
+    def answered(bundle, scratch, questions):
+        for numbers in questions:
+            yield bundle, scratch, numbers, *asked(bundle, scratch, "rough", *numbers)
+
+    upper_classes = make.SAMPLES["upper-classes"]
+    for bundle in [*opened_samples(), *(make.FURTHER[name] for name in ["no-concrete-class", "102-methods", "declared-apart"])]:
+        yield from answered(bundle, SCRATCH, every_send(bundle))
+    # Where the scratch is long enough, class 7 has 24 and class 8 has 18.
+    for scratch in [0, MATRIX - 1, MATRIX]:
+        yield from answered(upper_classes, scratch, [[0, c, 0, 0] for c in [0, 1, 2, 7, 8]])
+    # Methods up to the highest number there may be, found by one tuple and by 128; all two million tuples; and many functions.
+    numbers = [63, 64, 127, 128, 255, 256, 383, 384, 507, 508]
+    found = [[0, 1 + (m - 1) % (CLASSES - 1), (m - 1) // (CLASSES - 1), third] for m in numbers for third in [5, 0]]
+    yield from answered(most_methods(), SCRATCH, [*found, [0, 3, 4, 0], [0, 0, 0, 0]])
+    for bundle in [most_tuples(False), most_tuples(True), chained([[0, 0, k] for k in range(CLASSES)])]:
+        yield from answered(bundle, SCRATCH, [[0, 0, 0, 0], [0, 0, 0, CLASSES - 1]])
+    yield from answered(
+        make.bundle(*at_limits(chain(CLASSES))), SCRATCH,
+        [[f, *make.padded([c] * (1 + f % PLACES))] for f in [0, 1, 2, FUNCTIONS - 1] for c in [0, 1, 9, 64, CLASSES - 2, CLASSES - 1]])
+
+
+# Up to so many tuples are looked up one after the other as well.
+FEW_TUPLES = 500
+
+
+def by_lookups(bundle, function, *upper):
+    """what rough answers where nothing is refused, from a lookup of each tuple"""
+    unused = [0] * (PLACES - arity_of(bundle, function))
+    answers = [lookup(bundle, function, *places, *unused) for places in itertools.product(*below(bundle, function, *upper))]
+    if any(number for number, _ in answers):
+        return 0, [MAY_FAIL]
+    first, *others = [method for _, [method] in answers]
+    return 0, [SEVERAL] if any(method != first for method in others) else [ONE, first]
+
+
+def rough_cases(folder):
+    """the first value is one of SAID, and the second the one method"""
+    for bundle, scratch, numbers, *answer in rough_answers(folder):
+        held(bundle, reply(*answer), reply(*asked(bundle, scratch, "rough", *numbers)))
+        if answer[0] == 0 and math.prod(map(len, below(bundle, *numbers))) <= FEW_TUPLES:
+            held(bundle, reply(*answer), reply(*by_lookups(bundle, *numbers)))
+        yield bundle, Call("rough", tuple(numbers), scratch), reply(*answer)
+    yield from turned_away(folder, "rough", [0, 0, 0, 0])
+
+
 def listing_cases(folder):
     """the row is the buffer: longer than the text, as long, and a byte shorter"""
     texts = [(bundle, entry["listing"].encode()) for entry, bundle in vectors(folder, "check.jsonl")]
@@ -805,7 +854,7 @@ def all_cases(folder):
     for bundle, call, answer in itertools.chain.from_iterable(
         made(folder) for made in [
             opening_cases, view_cases, reader_cases, lookup_cases, send_type_cases, check_cases, witness_cases, run_cases, listing_cases,
-            chart_cases]):
+            chart_cases, rough_cases]):
         opened = opening(bundle)
         if call.entry in SCRATCHED and (opened[0] or 0 < answer.number < 10):
             held(bundle, answer, reply(*opened))

@@ -91,6 +91,32 @@ static void sends(void)
     HOLDS(curiumtoad_send_type(BUNDLE, SCRATCH, row, sizeof row - 1, 0, 2, 4, 0, v) == CURIUMTOAD_SHORT_BUFFER);
 }
 
+static void rough_sends(void)
+{
+    use("chart-4");
+    HOLDS(curiumtoad_rough(BUNDLE, SCRATCH, 0, 2, 4, 0, v) == CURIUMTOAD_OK);
+    HOLDS(v[CURIUMTOAD_AT_ROUGH] == CURIUMTOAD_ROUGH_ONE && v[CURIUMTOAD_AT_ROUGH_METHOD] == 3);
+    HOLDS(curiumtoad_rough(BUNDLE, SCRATCH, 0, 1, 3, 0, v) == CURIUMTOAD_OK && v[CURIUMTOAD_AT_ROUGH] == CURIUMTOAD_ROUGH_SEVERAL);
+    HOLDS(v[CURIUMTOAD_AT_ROUGH_METHOD] == 0);
+    /* No method takes class 6 or 7. */
+    HOLDS(curiumtoad_rough(BUNDLE, SCRATCH, 0, 0, 0, 0, v) == CURIUMTOAD_OK && v[CURIUMTOAD_AT_ROUGH] == CURIUMTOAD_ROUGH_MAY_FAIL);
+    /* Here classes 2 and 4 are ambiguous, and the three tuples before them find three methods. */
+    use("chart-3");
+    HOLDS(curiumtoad_rough(BUNDLE, SCRATCH, 0, 1, 3, 0, v) == CURIUMTOAD_OK && v[CURIUMTOAD_AT_ROUGH] == CURIUMTOAD_ROUGH_MAY_FAIL);
+    HOLDS(v[CURIUMTOAD_AT_ROUGH_METHOD] == 0);
+    HOLDS(curiumtoad_rough(BUNDLE, SCRATCH, 0, 1, 8, 0, v) == CURIUMTOAD_ABSENT);
+    HOLDS(curiumtoad_rough(BUNDLE, SCRATCH, 0, 1, 3, 1, v) == CURIUMTOAD_ABSENT);
+    HOLDS(curiumtoad_rough(BUNDLE, scratch, sizeof scratch - 1, 0, 1, 8, 0, v) == CURIUMTOAD_SHORT_SCRATCH);
+    /* An abstract class is no argument itself. */
+    use("abstract-argument");
+    HOLDS(curiumtoad_rough(BUNDLE, SCRATCH, 0, 0, 0, 0, v) == CURIUMTOAD_OK && v[CURIUMTOAD_AT_ROUGH] == CURIUMTOAD_ROUGH_ONE);
+    use("no-concrete-class");
+    HOLDS(curiumtoad_rough(BUNDLE, SCRATCH, 0, 0, 1, 0, v) == CURIUMTOAD_ABSENT);
+    HOLDS(curiumtoad_rough(BUNDLE, SCRATCH, 0, 0, 0, 0, v) == CURIUMTOAD_NO_CONCRETE);
+    use("loop");
+    HOLDS(curiumtoad_rough(BUNDLE, SCRATCH, 0, 0, 0, 0, v) == CURIUMTOAD_OK && v[CURIUMTOAD_AT_ROUGH] == CURIUMTOAD_ROUGH_ONE);
+}
+
 static void findings(void)
 {
     use("chart-3");
@@ -174,6 +200,7 @@ int main(int argc, char **argv)
     }
     openings();
     sends();
+    rough_sends();
     findings();
     runs();
     listings();

@@ -11,7 +11,7 @@
 #include <sys/mman.h>
 #include <unistd.h>
 
-enum { THREADS = 4, MOST_CALLS = 800, STEPS = 1000, UNTOUCHED = 0xa5 };
+enum { THREADS = 4, MOST_CALLS = 1000, STEPS = 1000, UNTOUCHED = 0xa5 };
 
 /* What calls on a bundle are lent, and what they gave. */
 struct calls {
@@ -42,6 +42,7 @@ static void make_send(struct calls *c, uint64_t number, uint64_t a0, uint64_t a1
     const uint8_t *bytes = c->bundle->bytes;
     size_t size = c->bundle->size;
     gave(c, curiumtoad_lookup(bytes, size, c->scratch, sizeof c->scratch, number, a0, a1, a2, next_values(c)));
+    gave(c, curiumtoad_rough(bytes, size, c->scratch, sizeof c->scratch, number, a0, a1, a2, next_values(c)));
     gave(c, curiumtoad_send_type(bytes, size, c->scratch, sizeof c->scratch, c->row, sizeof c->row, number, a0, a1, a2, next_values(c)));
     gave(c, curiumtoad_witness(bytes, size, c->scratch, sizeof c->scratch, number, a0, a1, a2, next_values(c)));
     gave(c, curiumtoad_run(bytes, size, c->scratch, sizeof c->scratch, number, a0, a1, a2, STEPS, next_values(c)));

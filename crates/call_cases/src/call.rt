@@ -12,6 +12,7 @@ use curiumtoad::chart::chart;
 use curiumtoad::check::check;
 use curiumtoad::lookup::lookup;
 use curiumtoad::opening::open;
+use curiumtoad::rough::rough;
 use curiumtoad::run::run;
 use curiumtoad::run_accepted::run_accepted;
 use curiumtoad::send_type::send_type;
@@ -81,6 +82,7 @@ impl Call {
             9 => Reply::of_run(run(bundle, scratch, send, count)),
             10 => Reply::of_accepted(run_accepted(bundle, scratch, send, count)),
             12 => Reply::of_chart(chart(bundle, scratch, row, n0, n1)),
+            13 => Reply::of_rough(rough(bundle, scratch, send)),
             _ => self.plain_reply(bundle, row),
         }
     }

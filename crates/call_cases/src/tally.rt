@@ -4,12 +4,12 @@ use crate::block::print_number;
 ghost use Prim.Native.Nat.{_<_};
 
 // The entry points, in the order of their codes.
-const ENTRIES: usize = 13;
+const ENTRIES: usize = 14;
 
 // The calls of each entry point, the differing ones of each, and all calls.
-pub(crate) const TALLIES: usize = 27;
+pub(crate) const TALLIES: usize = 29;
 
-const ALL: usize = 26;
+const ALL: usize = 28;
 
 fn print_entry(entry: usize) {
     match entry {
@@ -26,6 +26,7 @@ fn print_entry(entry: usize) {
         10 => print(b"accepted run"),
         11 => print(b"listing"),
         12 => print(b"chart"),
+        13 => print(b"rough"),
         _ => print(b"unknown"),
     }
 }
@@ -40,7 +41,7 @@ pub(crate) fn print_differs(tallies: &[u64; TALLIES], entry: usize) {
 }
 
 fn add_one(tallies: &mut [u64; TALLIES], k: usize)
-    requires { ⌜ k < 27 ⌝ }
+    requires { ⌜ k < 29 ⌝ }
 {
     // No run comes near the end of these counts.
     tallies[k] = std::num::wrapping_add_u64(tallies[k], 1);

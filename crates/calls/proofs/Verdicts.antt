@@ -6,7 +6,7 @@ use Rattle.rules.specs.Layout.{Answer}
 use Rattle.rules.specs.Model.{Model}
 use Rattle.rules.specs.Coverage.{Judgement, bodyVerdict, brokenMethod, coverageRefusal, coverageVerdict, verdict}
 use Rattle.rules.proofs.Coverage.{verdict-signature}
-use Rattle.coverage.specs.Search.{Violation, firstViolation}
+use Rattle.coverage.specs.Violations.{Violation, firstViolation}
 use Rattle.coverage.proofs.Violations.{none-broken, lowest-broken}
 use Rattle.calls.specs.Said.{coverageValues}
 use Rattle.calls.proofs.Answered.{coverage-same}

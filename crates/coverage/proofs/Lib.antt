@@ -1,5 +1,1 @@
-pub mod Leading
-pub mod Narrowing
-pub mod Searching
-pub mod Trying
 pub mod Violations

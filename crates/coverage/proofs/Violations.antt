@@ -8,23 +8,42 @@ use mathlib.Core.Option.{Option, none, some, Option·map}
 use Rattle.rules.specs.Bounded.{upto}
 use Rattle.rules.specs.Layout.{padded}
 use Rattle.rules.specs.Model.{Model, Wellformed}
-use Rattle.rules.specs.Coverage.{Judgement, judge, brokenTuple, isSome, brokenSignature}
+use Rattle.rules.specs.Coverage.{Judgement, judge, failing, tuples, brokenTuple, isSome, brokenSignature}
 use Rattle.rules.specs.Alike.{implies}
-use Rattle.rules.proofs.Lists.{any-mem, upto-below, none-lowest, some-lowest, lowest-some}
+use Rattle.rules.proofs.Lists.{any-mem, first-mem, upto-below, none-lowest, some-lowest, lowest-some}
 use Rattle.rules.proofs.Coverage.{none-of}
+use Rattle.rules.proofs.Rough.{listed-below}
 use Rattle.rules.proofs.Alike.{implied-covered}
+use Rattle.subclasses.specs.Places.{Arguments}
 use Rattle.coverage_rule.specs.Implied.{implied}
-use Rattle.coverage.specs.Search.{brokenCompletion, Violation, violation, violationIn, violationAt, firstViolation}
+use Rattle.tuple_search.specs.declared.question.Question.the-variants.{Rule}
+use Rattle.tuple_search.specs.Questions.{stopsAt}
+use Rattle.tuple_search.specs.Search.{stopIn}
+use Rattle.tuple_search.proofs.Narrowing.{below-arguments}
+use Rattle.coverage.specs.Violations.{Violation, violation, violationIn, violationAt, firstViolation}
 
--- what a search with no place filled finds is the signature's
-pub tuple-none : (M : Model) (s : ℕ) → brokenCompletion M s [] (M .sigArgs s) ≡ none → none ≡ violationIn M s
-unfolding violationIn brokenCompletion brokenTuple
+-- what a search of all tuples below a signature's classes finds is its first broken tuple
+pub stop-broken : (M : Model) (s : ℕ) → stopIn M (Rule s) [] (M .sigArgs s) ≡ brokenTuple M s
+unfolding stopIn stopsAt brokenTuple
+stop-broken M s = refl
+
+pub tuple-none : (M : Model) (s : ℕ) → brokenTuple M s ≡ none → none ≡ violationIn M s
+unfolding violationIn
 tuple-none M s e = sym (ap (Option·map (violation M s)) e)
 
-pub tuple-some : (M : Model) (s f : ℕ) (t after xs : List ℕ) (j : Judgement) → brokenCompletion M s [] (M .sigArgs s) ≡ some t → after ≡ t
-    → f ≡ M .sigFunction s → xs ≡ f ∷ padded after → j ≡ judge M s after → some (record { signature = s; send = xs; judgement = j }) ≡ violationIn M s
-unfolding violationIn violation brokenCompletion brokenTuple
-tuple-some M s f t after xs j e g k q d = rw (e, q, d, g, k)
+pub tuple-some : (M : Model) (s f : ℕ) (args xs : List ℕ) (j : Judgement) → brokenTuple M s ≡ some args → f ≡ M .sigFunction s → xs ≡ f ∷ padded args
+    → j ≡ judge M s args → some (record { signature = s; send = xs; judgement = j }) ≡ violationIn M s
+unfolding violationIn violation
+tuple-some M s f args xs j e g q d = rw (e, q, d, g)
+
+-- the classes of a signature are arguments of its function, and so are those of its broken tuple
+pub signature-arguments : {M : Model} → Wellformed M → (s : ℕ) → s < M .signatures → Arguments M (M .sigFunction s) (M .sigArgs s)
+signature-arguments w s h = record { function = w .sig-function s h; arity = w .sig-places s h; classes = w .sig-present s h }
+
+pub tuple-arguments : (M : Model) → Wellformed M → (s : ℕ) (args : List ℕ) → s < M .signatures → brokenTuple M s ≡ some args → Arguments M (M .sigFunction s) args
+unfolding brokenTuple
+tuple-arguments M w s args h e =
+    below-arguments (signature-arguments w s h) (listed-below M (M .sigArgs s) (first-mem (λ t. failing (judge M s t)) (tuples M (M .sigArgs s)) e .0))
 
 -- a signature with no violation is not broken; one with a violation, with none before it broken, is the lowest
 pub signature-holds : (M : Model) (s : ℕ) → none ≡ violationIn M s → isSome (brokenTuple M s) ≡ false

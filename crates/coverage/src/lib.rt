@@ -1,4 +1,2 @@
-// Coverage: the search for a tuple that breaks the coverage rule.
-mod alike;
-mod leader;
-pub mod search;
+// Coverage: the search for a signature with a tuple that breaks the coverage rule.
+pub mod signature;

@@ -8,6 +8,7 @@ pub mod instruction;
 pub mod lookup;
 pub mod opening;
 mod prepare;
+pub mod rough;
 pub mod run;
 pub mod run_accepted;
 pub mod send_type;

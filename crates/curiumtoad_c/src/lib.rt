@@ -10,6 +10,7 @@ use curiumtoad::chart::chart;
 use curiumtoad::check::check;
 use curiumtoad::lookup::lookup;
 use curiumtoad::opening::open;
+use curiumtoad::rough::rough;
 use curiumtoad::run::run;
 use curiumtoad::run_accepted::run_accepted;
 use curiumtoad::send_type::send_type;
@@ -21,8 +22,9 @@ ghost use mathlib.Core.List.{[], _∷_};
 ghost use lib.ListN.{length};
 ghost use Rattle.rules.specs.Calls.{openingCall, ancestryCall, lookupCall, sendTypeCall, checkCall, witnessCall, bodyViewCall, runCall, scratchAfter, rowAfter};
 ghost use Rattle.rules.specs.Chart.{chartCall, bufferAfter};
+ghost use Rattle.rules.specs.Rough.{roughCall};
 ghost use Rattle.chart_line.specs.Charted.{lengthSaid};
-ghost use Rattle.reply.specs.Replies.{reply, nothing, counts, yesOrNo, method, lineLength, runReply};
+ghost use Rattle.reply.specs.Replies.{reply, nothing, counts, yesOrNo, method, lineLength, roughValues, runReply};
 ghost use Rattle.curiumtoad_c.specs.Exported.{version, Handed, placed, AcceptsAs, ListsAs};
 
 // Writes the values, and gives the number.
@@ -124,6 +126,26 @@ pub extern "C" fn curiumtoad_chart(
 {
     let answer = chart(bundle, scratch, text, function, line);
     give(values, Reply::of_chart(answer))
+}
+
+// The rough call: what the first value says, and where it is 0 the method.
+#[no_mangle]
+pub extern "C" fn curiumtoad_rough(
+    bundle: &[u8],
+    scratch: &mut [u8],
+    function: usize,
+    a0: usize,
+    a1: usize,
+    a2: usize,
+    values: &mut [usize; 8],
+) -> u8
+    ensures { λ r. ⌜ Handed (reply roughValues (roughCall (now (bundle .entry)) (length (now (scratch .entry))) function (a0 ∷ a1 ∷ a2 ∷ []))) r (now (values .exit)) ⌝ }
+    ensures { λ r. ⌜ now (scratch .exit) ≡ scratchAfter (now (bundle .entry)) (now (scratch .entry)) ⌝ }
+{
+    let tuple = Tuple { a0, a1, a2 };
+    let send = Send { function, tuple };
+    let answer = rough(bundle, scratch, send);
+    give(values, Reply::of_rough(answer))
 }
 
 // The witness check: the rule holds, or 10 to 13.

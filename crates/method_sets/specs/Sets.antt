@@ -109,9 +109,3 @@ pub record AlikeIn (admits holds set : List ℕ) (place a k : ℕ) : Type 0 wher
 -- nor class k from one of the first tried
 abbrev pub SomeAlike : List ℕ → List ℕ → List ℕ → ℕ → List ℕ → ℕ → ℕ → Type 0
 SomeAlike admits holds set place tried tries k = (j : ℕ) × (j < tries) × AlikeIn admits holds set place (getD tried j 0) k
-
--- what a search goes by: the order, and the tables of specialisers and of declared classes
-pub record Tables (M : Model) (order admits holds : List ℕ) : Type 0 where
-  pub ordered : Ordered M order
-  pub admitting : Tabled false M order admits
-  pub holding : Tabled true M order holds

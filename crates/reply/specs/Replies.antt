@@ -7,6 +7,7 @@ use lib.ListN.{take, replicate, set}
 use Rattle.rules.specs.Layout.{Answer, gives, refuses}
 use Rattle.rules.specs.Machine.{Ending, value, spent, deep, stopped, Outcome}
 use Rattle.rules.specs.Calls.{bit}
+use Rattle.rules.specs.Rough.{Rough, one, mayFail, several}
 use Rattle.calls.specs.declared.check.Verdict.the-variants as verdict
 use Rattle.calls.specs.Said.{refusalSaid, verdictSaid}
 use Rattle.curiumtoad.specs.declared.run_accepted.AcceptedRun as accepted-type
@@ -45,6 +46,12 @@ method m = m ∷ []
 -- the line call: how many bytes the line has
 abbrev pub lineLength : ℕ → List ℕ
 lineLength n = n ∷ []
+
+-- the rough call: 0 with the one method, 1 where the send may fail, 2 where several are found
+abbrev pub roughValues : Rough → List ℕ
+roughValues (one m) = 0 ∷ m ∷ []
+roughValues mayFail = 1 ∷ []
+roughValues several = 2 ∷ []
 
 -- The ending of a run has a number where the run was stopped. Else its number is 0, and its first value tells a value from Spent and Deep.
 abbrev pub endingReply : Ending → Reply

@@ -10,6 +10,7 @@ use curiumtoad::check::Verdict;
 use curiumtoad::lookup::LookupAnswer;
 use curiumtoad::opening::number;
 use curiumtoad::opening::record;
+use curiumtoad::rough::RoughAnswer;
 use curiumtoad::run::RunAnswer;
 use curiumtoad::run_accepted::AcceptedRun;
 use curiumtoad::send_type::SendTypeAnswer;
@@ -27,7 +28,8 @@ ghost use Rattle.machine.specs.Outcome.{outcomeOf};
 ghost use Rattle.calls.specs.Answers.{numberOf, valuesOf};
 ghost use Rattle.calls.specs.Said.{refusalSaid, ancestrySaid, lookupSaid, sendTypeSaid, coverageSaid, witnessSaid, runSaid, verdictSaid};
 ghost use Rattle.chart_line.specs.Charted.{chartSaid};
-ghost use Rattle.reply.specs.Replies.{numbered, reply, nothing, counts, yesOrNo, method, lineLength, endingReply, withSteps, outcomeReply, runReply, acceptedReply};
+ghost use Rattle.upper_classes.specs.Answered.{roughSaid};
+ghost use Rattle.reply.specs.Replies.{numbered, reply, nothing, counts, yesOrNo, method, lineLength, roughValues, endingReply, withSteps, outcomeReply, runReply, acceptedReply};
 
 // The number of an answer (M 11), 0 where nothing is refused, and what is named beside it.
 pub struct Reply {
@@ -128,6 +130,19 @@ impl Reply {
             ChartAnswer::NotBinary => Reply::pair(21, 0, 0),
             ChartAnswer::NoLine => Reply::pair(22, 0, 0),
             ChartAnswer::Short => Reply::pair(23, 0, 0),
+        }
+    }
+
+    // The first value tells one method, which is the second, from a send that may fail and from several.
+    pub fn of_rough(answer: RoughAnswer) -> Reply
+        ensures { λ r. ⌜ r ≡ reply roughValues (roughSaid answer) ⌝ }
+    {
+        match answer {
+            RoughAnswer::One(m) => Reply::pair(0, 0, m),
+            RoughAnswer::MayFail => Reply::pair(0, 1, 0),
+            RoughAnswer::Several => Reply::pair(0, 2, 0),
+            RoughAnswer::NoConcrete => Reply::pair(24, 0, 0),
+            RoughAnswer::Refused(refusal) => Reply::of_refusal(refusal),
         }
     }
 

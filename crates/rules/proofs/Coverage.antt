@@ -8,15 +8,15 @@ use mathlib.Core.Logic.{_⊎_, inl, inr}
 use mathlib.Core.List.{List, [], _∷_, map, List·Memᴰ, List·Memᴰ·head, List·Memᴰ·tail, List·Memᴰ·not-nil, List·Memᴰ·append-cases, List·Memᴰ·eq-of-singleton, Memᴰ·append-left, Memᴰ·append-right, Memᴰ·cast, Memᴰ·map, Memᴰ·of-map}
 use mathlib.Core.Option.{Option, none, some}
 use lib.Dec.{ltb}
-use borrow.Author.Tests.{ltb-true}
+use borrow.Author.Tests.{ltb-true, lt-ltb}
 use Rattle.rules.specs.Bounded.{upto, every, matching}
 use Rattle.rules.specs.Layout.{gives}
-use Rattle.rules.specs.Model.{Model}
+use Rattle.rules.specs.Model.{Model, present}
 use Rattle.rules.specs.Subclass.{subclass, under}
 use Rattle.rules.specs.Lookup.{Found, found, missing, ambiguous, lookup}
 use Rattle.rules.specs.Types.{Typing, typed, breaks, typeBody}
 use Rattle.rules.specs.Coverage.{covers, declaredHold, Judgement, holds, fails, judgeFound, judge, failing, concreteClass, concreteUnder, prefixed, tuples, brokenTuple, isSome, brokenSignature, breaking, brokenMethod, coverageRefusal, bodyRefusal, bodyVerdict, tupleVerdict, coverageVerdict, verdict}
-use Rattle.rules.proofs.Lists.{test, and-left, and-right, and-both, keep-mem, keep-in, below-upto, first-mem, first-none, none-first, lowest-none, lowest-some, none-lowest}
+use Rattle.rules.proofs.Lists.{test, and-left, and-right, and-both, every-mem, every-from, keep-mem, keep-in, below-upto, first-mem, first-none, none-first, lowest-none, lowest-some, none-lowest}
 
 pub prefixed-mem : (ks : List ℕ) (ts : List (List ℕ)) {t : List ℕ} → List·Memᴰ t (prefixed ks ts)
     → (k : ℕ) × (u : List ℕ) × (t ≡ k ∷ u) × List·Memᴰ k ks × List·Memᴰ u ts
@@ -40,6 +40,10 @@ prefixed-in (j ∷ ks) ts (List·Memᴰ·tail h) m = Memᴰ·append-right (map (
 pub concrete-present : (M : Model) (v : ℕ) → concreteClass M v ≡ true → v < M .classes
 unfolding concreteClass
 concrete-present M v e = ltb-true v (M .classes) (and-left (ltb v (M .classes)) (M .concrete v) e)
+
+pub concretes-present : (M : Model) (vs : List ℕ) → every (concreteClass M) vs ≡ true → present M vs ≡ true
+unfolding present
+concretes-present M vs e = every-from (λ v. ltb v (M .classes)) vs (λ v m. lt-ltb v (M .classes) (concrete-present M v (every-mem (concreteClass M) vs e m)))
 
 pub concrete-mem : (M : Model) (c : ℕ) {k : ℕ} → List·Memᴰ k (concreteUnder M c) → (concreteClass M k ≡ true) × (subclass M k c ≡ true)
 unfolding concreteUnder

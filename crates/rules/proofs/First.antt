@@ -14,8 +14,8 @@ use borrow.Author.Tests.{ltb-true, ltb-false}
 use Rattle.rules.specs.Bounded.{upto, first}
 use Rattle.rules.specs.Model.{Model}
 use Rattle.rules.specs.Subclass.{subclass, under}
-use Rattle.rules.specs.Coverage.{covers, judge, failing, concreteUnder, prefixed, tuples, brokenTuple}
-use Rattle.rules.specs.First.{Before, here, later, Tuple, FirstBroken}
+use Rattle.rules.specs.Coverage.{judge, failing, concreteUnder, prefixed, tuples, Below, brokenTuple}
+use Rattle.rules.specs.First.{Before, here, later, FirstBroken}
 use Rattle.rules.proofs.Lists.{test, first-hit, first-miss, first-mem, first-none, matching-length, Ordered, ordered-append, ordered-keep, Rising, rising-upto}
 use Rattle.rules.proofs.Coverage.{prefixed-mem, tuples-mem, tuples-in}
 
@@ -88,7 +88,7 @@ before-or-same (a ∷ xs) (b ∷ ys) e = go (ltb a b) refl (ltb b a) refl (befor
 
 -- The broken tuple that is found is the first, and the first is the one found.
 pub broken-first : (M : Model) (s : ℕ) (args : List ℕ) → brokenTuple M s ≡ some args → FirstBroken M s args
-unfolding brokenTuple covers
+unfolding brokenTuple
 broken-first M s args e =
     let (m, f) = first-mem (λ t. failing (judge M s t)) (tuples M (M .sigArgs s)) e in
     let (c, u) = tuples-mem M (M .sigArgs s) m in
@@ -101,7 +101,7 @@ broken-first M s args e =
     }
 
 pub first-broken : (M : Model) (s : ℕ) (args : List ℕ) → FirstBroken M s args → brokenTuple M s ≡ some args
-unfolding brokenTuple covers under
+unfolding brokenTuple under
 first-broken M s args f = go (brokenTuple M s) refl
   where
     go : (r : Option (List ℕ)) → brokenTuple M s ≡ r → brokenTuple M s ≡ some args
@@ -113,7 +113,7 @@ first-broken M s args f = go (brokenTuple M s) refl
         g : FirstBroken M s t
         g = broken-first M s t e
 
-        long : (u : List ℕ) → Tuple M s u → length u ≡ length (M .sigArgs s)
+        long : (u : List ℕ) → Below M (M .sigArgs s) u → length u ≡ length (M .sigArgs s)
         long u h = matching-length (subclass M) u (M .sigArgs s) (h .covered)
 
         which : (t ≡ args) ⊎ (Before t args ⊎ Before args t) → brokenTuple M s ≡ some args

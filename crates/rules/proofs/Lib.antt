@@ -20,4 +20,5 @@ pub mod Overwrite
 pub mod Tuples
 pub mod Decimal
 pub mod Chart
+pub mod Rough
 pub mod Cases

@@ -15,13 +15,10 @@ use Rattle.rules.specs.Lookup.{applies, select, lookup}
 unfoldable pub aboveAlike : Model → ℕ → ℕ → ℕ → Bool
 aboveAlike M c a b = Bool·beq (subclass M a c) (subclass M b c)
 
--- method m does not tell classes a and b apart at a place: neither its specialiser there does, nor its declared class
-unfoldable pub treatsAlike : Model → ℕ → ℕ → ℕ → ℕ → Bool
-treatsAlike M place a b m = aboveAlike M (getD (M .specialisers m) place 0) a b && aboveAlike M (getD (M .declared m) place 0) a b
-
--- classes a and b are alike at a place: no method of the list tells them apart there
-unfoldable pub alikeAt : Model → ℕ → List ℕ → ℕ → ℕ → Bool
-alikeAt M place ms a b = every (treatsAlike M place a b) ms
+-- Classes a and b are alike at a place by the classes that methods have for their places, specialisers or declared classes: no method of the list has one
+-- there that is above only one of the two.
+unfoldable pub alikeAt : Model → (ℕ → List ℕ) → ℕ → List ℕ → ℕ → ℕ → Bool
+alikeAt M classes place ms a b = every (λ m. aboveAlike M (getD (classes m) place 0) a b) ms
 
 -- with the first places filled, the methods of the list decide what a send of function f finds, whatever completes the tuple
 abbrev pub Decides : Model → ℕ → List ℕ → List ℕ → Type 0

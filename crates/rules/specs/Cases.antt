@@ -14,7 +14,8 @@ use Rattle.rules.specs.Machine.{Ending, value, spent, deep, stopped}
 use Rattle.rules.specs.Calls.{scratchBytes, rowBytes, openingCall, ancestryCall, lookupCall, sendTypeCall, checkCall, witnessCall, bodyViewCall, bodyViewStart, runCall, bit, rowAfter}
 use Rattle.rules.specs.Ascii.{ascii}
 use Rattle.rules.specs.Chart.{chartCall, bufferAfter}
-use Rattle.rules.specs.Samples.{chart3, chart4, chart5, loop, oneClass, abstractArgument, narrowDeclared, wideResult, twoValues, abstractNew, noLicence, looseResult, twentyThreeBytes, directoryGap, emptySections, ownParent, fourArguments, absentResult, emptyBody, twinMethods, unknownOperation, noMethod, threeFaults, threeRivals, severalBroken}
+use Rattle.rules.specs.Rough.{Rough, one, mayFail, several, roughCall}
+use Rattle.rules.specs.Samples.{chart3, chart4, chart5, loop, oneClass, abstractArgument, narrowDeclared, wideResult, twoValues, abstractNew, noLicence, looseResult, twentyThreeBytes, directoryGap, emptySections, ownParent, fourArguments, absentResult, emptyBody, twinMethods, unknownOperation, noMethod, threeFaults, threeRivals, severalBroken, upperClasses}
 
 -- A call on a bundle, with what it comes to. Scratch, row and buffer are large enough, but for `checksIn`, `typesIn` and `chartsIn`, which give their length.
 pub data Case : Type 0 where
@@ -30,6 +31,7 @@ pub data Case : Type 0 where
   runs : List ℕ → ℕ → List ℕ → ℕ → Ending → ℕ → Case
   charts : List ℕ → ℕ → ℕ → String → Case
   chartsIn : List ℕ → ℕ → ℕ → ℕ → Answer (List ℕ) → Case
+  roughly : List ℕ → ℕ → List ℕ → Answer Rough → Case
 
 -- the row of a type that has these classes
 unfoldable pub rowOf : List ℕ → List ℕ
@@ -50,6 +52,7 @@ Stands (typesIn b n f tuple answer) = sendTypeCall b scratchBytes n f tuple ≡ 
 Stands (runs b f tuple count e steps) = runCall b scratchBytes f tuple count ≡ gives (record { ending = e; steps = steps })
 Stands (charts b f k line) = bufferAfter b scratchBytes (replicate (length (ascii line) + 2) 9) f k ≡ ascii line ++ 9 ∷ 9 ∷ []
 Stands (chartsIn b n f k answer) = chartCall b scratchBytes n f k ≡ answer
+Stands (roughly b f tuple answer) = roughCall b scratchBytes f tuple ≡ answer
 
 abbrev pub AllStand : List Case → Type 0
 AllStand [] = Unit {0}
@@ -123,4 +126,13 @@ worked =
     ∷ chartsIn abstractArgument 10 0 0 (refuses 21 [])
     ∷ chartsIn chart3 35 0 7 (refuses 22 [])
     ∷ chartsIn chart3 34 0 6 (refuses 23 [])
+    ∷ roughly upperClasses 0 (2 ∷ 0 ∷ 0 ∷ []) (gives (one 1))
+    ∷ roughly upperClasses 0 (1 ∷ 0 ∷ 0 ∷ []) (gives several)
+    ∷ roughly upperClasses 0 (0 ∷ 0 ∷ 0 ∷ []) (gives mayFail)
+    ∷ roughly upperClasses 0 (8 ∷ 0 ∷ 0 ∷ []) (refuses 18 [])
+    ∷ roughly upperClasses 0 (7 ∷ 0 ∷ 0 ∷ []) (refuses 24 [])
+    ∷ roughly chart3 0 (1 ∷ 3 ∷ 0 ∷ []) (gives mayFail)
+    ∷ roughly chart4 0 (1 ∷ 3 ∷ 0 ∷ []) (gives several)
+    ∷ roughly chart4 0 (2 ∷ 4 ∷ 0 ∷ []) (gives (one 3))
+    ∷ roughly loop 0 (0 ∷ 0 ∷ 0 ∷ []) (gives (one 0))
     ∷ []

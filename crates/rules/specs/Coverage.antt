@@ -1,11 +1,12 @@
 -- Coverage (M 6; what the Diesel report calls a complete, consistent and conforming implementation of a signature), and the verdict.
 -- Assumes nothing.
 use Prim.Native.Nat.{ℕ}
+use mathlib.Core.Path.{_≡_}
 use mathlib.Core.Bool.{Bool, true, false, cond, _&&_}
 use mathlib.Core.List.{List, [], _∷_, _++_, map}
 use mathlib.Core.Option.{Option, none, some}
 use lib.Dec.{ltb}
-use Rattle.rules.specs.Bounded.{upto, keep, first}
+use Rattle.rules.specs.Bounded.{upto, every, keep, first}
 use Rattle.rules.specs.Layout.{Answer, gives, refuses, padded}
 use Rattle.rules.specs.Model.{Model}
 use Rattle.rules.specs.Subclass.{subclass, under}
@@ -59,6 +60,11 @@ prefixed (k ∷ ks) tails = map (λ t. k ∷ t) tails ++ prefixed ks tails
 unfoldable pub tuples : Model → List ℕ → List (List ℕ)
 tuples M [] = [] ∷ []
 tuples M (c ∷ cs) = prefixed (concreteUnder M c) (tuples M cs)
+
+-- what it is to be one of them: concrete classes, each under the class at its place
+pub record Below (M : Model) (upper args : List ℕ) : Type 0 where
+  pub concrete : every (concreteClass M) args ≡ true
+  pub covered : under M args upper ≡ true
 
 unfoldable pub brokenTuple : Model → ℕ → Option (List ℕ)
 brokenTuple M s = first (λ t. failing (judge M s t)) (tuples M (M .sigArgs s))

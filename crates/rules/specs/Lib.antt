@@ -14,6 +14,7 @@ pub mod Calls
 pub mod Ascii
 pub mod Decimal
 pub mod Chart
+pub mod Rough
 pub mod Samples
 pub mod Cases
 pub mod Sound

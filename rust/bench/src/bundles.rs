@@ -126,6 +126,27 @@ pub fn many_methods(broken: bool) -> Vec<u8> {
     parts.bytes()
 }
 
+/// 127 concrete classes that 512 methods tell apart at each of three places, although every tuple finds the first of them: each of
+/// the others has at some place the one abstract class, which no class is under but itself.
+pub fn found_everywhere() -> Vec<u8> {
+    let mut parts = flat();
+    parts.classes[127].concrete = false;
+    let function = parts.function(3);
+    parts.method(function, [0; 3], 0, &[[NEW, 0]]);
+    for number in 0..511u16 {
+        let i = (number % 126 + 1) as u8;
+        let specialisers = match number / 126 {
+            0 => [i, 0, 127],
+            1 => [0, i, 127],
+            2 => [0, 127, i],
+            3 => [i, i, 127],
+            _ => [i, i + 1, 127],
+        };
+        parts.method(function, specialisers, 0, &[[NEW, 0]]);
+    }
+    parts.bytes()
+}
+
 /// 512 methods that the library puts into one bucket, so that each is compared with all before it. They are of one function, so
 /// that no comparison ends there.
 pub fn one_bucket() -> Vec<u8> {
@@ -312,6 +333,11 @@ pub fn slowest_broken() -> Vec<u8> {
 /// A function of two arguments over the tree of 128 classes, with 512 methods, of which up to 25 apply to a tuple.
 pub fn chart() -> Vec<u8> {
     widest_chart().bytes()
+}
+
+/// The sample of that name.
+pub fn chart_3() -> Vec<u8> {
+    builder::chart_3().bytes()
 }
 
 /// A body that sends the next function over and over.

@@ -43,6 +43,15 @@ fn cases() -> Vec<Case> {
         lookup_case("lookup among 512 methods that all apply, ambiguous", bundles::rivals_in_the_middle(), last, 11),
         repeated(LINES, chart_case("chart of 128 classes, 512 methods: all 129 lines", bundles::chart())),
         repeated(LINES, ancestry_case("ancestry on the bundle of that chart, 129 times", bundles::chart())),
+        rough_case("rough answer on chart-3, last of 4 tuples fails", bundles::chart_3(), [1, 3, 0], 1),
+        rough_case("rough answer, 2,048,383 tuples, 512 methods, one", bundles::found_everywhere(), [0; 3], 0),
+        rough_case("rough answer, 2,097,152 tuples, 512 methods, several", bundles::many_methods(false), [0; 3], 2),
+        rough_case(
+            "rough answer, 2,097,152 tuples, 512 methods, last one fails",
+            bundles::many_methods(true),
+            [0; 3],
+            1,
+        ),
         check_case("check 2,097,152 tuples, 5 methods, accepted", bundles::few_methods(false), 0),
         check_case("check 2,097,152 tuples, 7 methods, last one broken", bundles::few_methods(true), 11),
         check_case("check 2,097,152 tuples, 512 methods, accepted", bundles::many_methods(false), 0),
@@ -112,6 +121,21 @@ fn next([a, b, c]: [u64; 3]) -> [u64; 3] {
 /// The last tuple, over and over.
 fn last(_: [u64; 3]) -> [u64; 3] {
     [127; 3]
+}
+
+/// A rough call of function 0, and what it has to answer.
+fn rough_case(name: &'static str, bundle: Vec<u8>, uppers: [u64; 3], answer: u64) -> Case {
+    let [a, b, c] = [bundle.clone(), bundle.clone(), bundle];
+    let [mut scratch_1, mut scratch_2, mut scratch_3] = [[0; plain::SCRATCH]; 3];
+    Case {
+        name,
+        library: Box::new(move || by_library(|values| raw::rough(black_box(&a), &mut scratch_1, 0, uppers, values))),
+        plain: Some(Box::new(move || by_plain(plain::rough(black_box(&b), &mut scratch_2, 0, uppers)))),
+        fast: Some(Box::new(move || {
+            by_library(|values| fast::rough(black_box(&c), &mut scratch_3, 0, uppers, values))
+        })),
+        expected: (0, Some(answer)),
+    }
 }
 
 /// How many lines the chart of 128 concrete classes has.

@@ -1,8 +1,8 @@
-//! Calls, made on both implementations with the same bytes in every buffer.
+//! Calls, made on every implementation that has them with the same bytes in every buffer.
 
-use crate::opening;
 use crate::rivals::beaten_and_rivals;
 use crate::tally::Tally;
+use crate::{generate, opening, rough};
 use builder::{hex, Parts, Random};
 use curiumtoad::{raw, Answer};
 use std::ops::Range;
@@ -13,6 +13,7 @@ pub enum Call {
     Open,
     Ancestry(u64, u64),
     Lookup(u64, [u64; 3]),
+    Rough(u64, [u64; 3]),
     SendType(u64, [u64; 3]),
     Check,
     Witness(u64, [u64; 3]),
@@ -34,6 +35,7 @@ impl Call {
             Call::Open => "open",
             Call::Ancestry(..) => "ancestry",
             Call::Lookup(..) => "lookup",
+            Call::Rough(..) => "rough",
             Call::SendType(..) => "send_type",
             Call::Check => "check",
             Call::Witness(..) => "witness",
@@ -68,6 +70,7 @@ impl Call {
             Call::Open => plain::open(bundle),
             Call::Ancestry(a, b) => plain::ancestry(bundle, scratch, a, b),
             Call::Lookup(function, arguments) => plain::lookup(bundle, scratch, function, arguments),
+            Call::Rough(function, uppers) => plain::rough(bundle, scratch, function, uppers),
             Call::SendType(function, arguments) => plain::send_type(bundle, scratch, row, function, arguments),
             Call::Check => plain::check(bundle, scratch),
             Call::Witness(signature, arguments) => plain::witness(bundle, scratch, signature, arguments),
@@ -87,6 +90,7 @@ impl Call {
             Call::Open => raw::open(bundle, values),
             Call::Ancestry(a, b) => raw::ancestry(bundle, scratch, a, b, values),
             Call::Lookup(function, arguments) => raw::lookup(bundle, scratch, function, arguments, values),
+            Call::Rough(function, uppers) => raw::rough(bundle, scratch, function, uppers, values),
             Call::SendType(function, arguments) => raw::send_type(bundle, scratch, row, function, arguments, values),
             Call::Check => raw::check(bundle, scratch, values),
             Call::Witness(signature, arguments) => raw::witness(bundle, scratch, signature, arguments, values),
@@ -100,6 +104,16 @@ impl Call {
         }
     }
 
+    /// The call by `fast`, where it has that call.
+    pub fn by_fast(&self, bundle: &[u8], [scratch, ..]: Buffers, values: &mut raw::Values) -> Option<u8> {
+        match *self {
+            Call::Open => Some(fast::open(bundle, values)),
+            Call::Check => Some(fast::check(bundle, scratch, values)),
+            Call::Rough(function, uppers) => Some(fast::rough(bundle, scratch, function, uppers, values)),
+            _ => None,
+        }
+    }
+
     /// A reply of this call as the wrapper's answer, and that answer as a reply again.
     fn through_the_wrapper(&self, reply: curiumtoad::Reply) -> curiumtoad::Reply {
         fn there_and_back<A: Answer>(reply: curiumtoad::Reply) -> curiumtoad::Reply {
@@ -109,6 +123,7 @@ impl Call {
             Call::Open => there_and_back::<Result<curiumtoad::Counts, curiumtoad::Refusal>>(reply),
             Call::Ancestry(..) => there_and_back::<Result<bool, curiumtoad::Refusal>>(reply),
             Call::Lookup(..) => there_and_back::<curiumtoad::Lookup>(reply),
+            Call::Rough(..) => there_and_back::<curiumtoad::Rough>(reply),
             Call::SendType(..) => there_and_back::<curiumtoad::SendType>(reply),
             Call::Check => there_and_back::<curiumtoad::Verdict>(reply),
             Call::Witness(..) => there_and_back::<curiumtoad::Witness>(reply),
@@ -146,6 +161,11 @@ impl Lent {
         };
         Lent { scratch, row, text: call.text_length(), start: random.below(17) }
     }
+
+    /// With a scratch that is long enough, and nothing else.
+    fn scratch(random: &mut Random) -> Lent {
+        Lent { scratch: plain::SCRATCH + 40, row: 0, text: 0, start: random.below(17) }
+    }
 }
 
 /// A store of bytes of which a part is lent; the bytes around the part have to stay.
@@ -168,17 +188,41 @@ impl Store {
     }
 }
 
-/// Makes calls on both implementations, counts them, and prints where they differ.
+/// The number and the values of an answer, and the buffers after it.
+struct Answered {
+    reply: (u8, raw::Values),
+    buffers: [Store; 3],
+}
+
+impl Answered {
+    /// What is not as it was expected.
+    fn different(&self, expected: &Answered) -> Vec<&'static str> {
+        let mut different = Vec::new();
+        if self.reply != expected.reply {
+            different.push("the reply");
+        }
+        for (at, name) in ["the scratch", "the row", "the text"].into_iter().enumerate() {
+            if self.buffers[at].bytes != expected.buffers[at].bytes {
+                different.push(name);
+            }
+        }
+        different
+    }
+}
+
+/// Makes calls on all implementations, counts them, and prints where they differ.
 pub struct Comparer {
     pub tally: Tally,
     noise: Vec<u8>,
+    /// What the library answered to rough calls on the bundle at hand.
+    rough: rough::Answers,
 }
 
 impl Default for Comparer {
     fn default() -> Self {
         let mut random = Random::new(1);
         let noise = (0..1 << 20).map(|_| random.byte()).collect();
-        Comparer { tally: Tally::default(), noise }
+        Comparer { tally: Tally::default(), noise, rough: rough::Answers::default() }
     }
 }
 
@@ -191,9 +235,10 @@ impl Comparer {
         self.tally.differences >= MOST_DIFFERENCES
     }
 
-    /// Makes the calls on one bundle. The check by `fast` is compared too.
+    /// Makes the calls on one bundle, and a check with a scratch that is long enough, by whose number the bundle is counted.
     pub fn bundle(&mut self, bundle: &[u8], calls: &[Call], random: &mut Random) {
         self.tally.bundles += 1;
+        self.rough = rough::Answers::default();
         for call in calls {
             if self.given_up() {
                 return;
@@ -201,8 +246,10 @@ impl Comparer {
             let lent = Lent::choose(random, call);
             self.call(bundle, call, lent, random);
         }
-        let number = self.fast(bundle, random);
+        let lent = Lent::scratch(random);
+        let number = self.call(bundle, &Call::Check, lent, random);
         self.tally.checks[number as usize] += 1;
+        self.hold_narrowed(bundle);
     }
 
     fn noise(&self, length: usize, random: &mut Random) -> &[u8] {
@@ -210,50 +257,76 @@ impl Comparer {
         &self.noise[start..start + length]
     }
 
-    fn call(&mut self, bundle: &[u8], call: &Call, lent: Lent, random: &mut Random) {
+    /// Makes a call, and gives the number of its answer.
+    fn call(&mut self, bundle: &[u8], call: &Call, lent: Lent, random: &mut Random) -> u8 {
         let lengths = [lent.scratch, lent.row, lent.text];
         let mut buffers = lengths.map(|length| Store::holding(self.noise(length, random), lent.start));
-        let mut buffers_2 = buffers.each_mut().map(|buffer| Store::holding(buffer.part(), lent.start));
+        let [mut buffers_2, mut buffers_3] =
+            [(); 2].map(|()| buffers.each_mut().map(|buffer| Store::holding(buffer.part(), lent.start)));
         let mut bundle_2 = Store::holding(bundle, lent.start);
 
-        let expected = call.by_plain(bundle, buffers.each_mut().map(Store::part));
-        let mut values = [random.bits(); 8];
-        let number = call.by_library(bundle_2.part(), buffers_2.each_mut().map(Store::part), &mut values);
-        self.tally.count(call.name(), expected.number);
-        if expected.number == 0 && matches!(call, Call::Run(..) | Call::RunAccepted(..)) {
-            self.tally.count_run(expected.values);
-        }
-        if matches!(call, Call::Open) {
-            self.count_opening(bundle, expected.number, expected.values[0] as usize);
-        }
-        if expected.number == 11 {
-            let (beaten, rivals) = beaten_and_rivals(bundle, buffers[0].part(), call.sent(expected.values));
-            self.tally.count_rivals(&beaten, &rivals);
-        }
+        let plain::Reply { number, values } = call.by_plain(bundle, buffers.each_mut().map(Store::part));
+        let mut values_2 = [random.bits(); 8];
+        let mut values_3 = values_2;
+        let number_2 = call.by_library(bundle_2.part(), buffers_2.each_mut().map(Store::part), &mut values_2);
+        let number_3 = call.by_fast(bundle, buffers_3.each_mut().map(Store::part), &mut values_3);
 
-        let mut different = Vec::new();
-        if (expected.number, expected.values) != (number, values) {
-            different.push("the reply");
-        } else {
-            let reply = curiumtoad::Reply { number, values };
-            if call.through_the_wrapper(reply) != reply {
-                different.push("the wrapper's answer");
-            }
-        }
-        for (at, name) in ["the scratch", "the row", "the text"].into_iter().enumerate() {
-            if buffers[at].bytes != buffers_2[at].bytes {
-                different.push(name);
-            }
+        let mut expected = Answered { reply: (number, values), buffers };
+        let library = Answered { reply: (number_2, values_2), buffers: buffers_2 };
+        self.count(bundle, call, &mut expected);
+        let mut different = library.different(&expected);
+        let reply = curiumtoad::Reply { number: number_2, values: values_2 };
+        if library.reply == expected.reply && call.through_the_wrapper(reply) != reply {
+            different.push("the wrapper's answer");
         }
         if bundle_2.bytes != Store::holding(bundle, lent.start).bytes {
             different.push("the bundle");
         }
-        if !different.is_empty() {
+        let mut peers = vec![("the library", library.reply, different)];
+        if let Some(number_3) = number_3 {
+            let fast = Answered { reply: (number_3, values_3), buffers: buffers_3 };
+            peers.push(("fast", fast.reply, fast.different(&expected)));
+        }
+        for (peer, reply, different) in peers.into_iter().filter(|(_, _, different)| !different.is_empty()) {
             self.tally.differences += 1;
             println!("different: {} of {call:?} with {lent:?}", different.join(", "));
-            println!("  plain gives {} {:?}", expected.number, expected.values);
-            println!("  the library gives {number} {values:?}");
+            println!("  plain gives {:?}", expected.reply);
+            println!("  {peer} gives {reply:?}");
             println!("  bundle {}", hex(bundle));
+        }
+        if let (&Call::Rough(function, uppers), 0, 0) = (call, number, number_2) {
+            self.rough.add(expected.buffers[0].part(), function, uppers, values_2);
+        }
+        number
+    }
+
+    /// Counts a call by its answer, and by what it had to tell apart.
+    fn count(&mut self, bundle: &[u8], call: &Call, answered: &mut Answered) {
+        let (number, values) = answered.reply;
+        self.tally.count(call.name(), number);
+        match (call, number) {
+            (Call::Run(..) | Call::RunAccepted(..), 0) => self.tally.count_run(values),
+            (Call::Open, _) => self.count_opening(bundle, number, values[0] as usize),
+            (&Call::Rough(function, uppers), 0) => {
+                self.tally.count_rough(rough::kinds(bundle, function, uppers, values));
+            }
+            (_, 11) => {
+                let (beaten, rivals) = beaten_and_rivals(bundle, answered.buffers[0].part(), call.sent(values));
+                self.tally.count_rivals(&beaten, &rivals);
+            }
+            _ => {}
+        }
+    }
+
+    /// Holds the library's answers to rough calls on a bundle to one another, where one has classes under those of another.
+    fn hold_narrowed(&mut self, bundle: &[u8]) {
+        for (wide, narrow) in self.rough.narrowed() {
+            self.tally.count_narrowed(wide.answer, narrow.answer);
+            if !wide.allows(narrow) && !self.given_up() {
+                self.tally.differences += 1;
+                println!("not kept for classes under the upper ones: {wide:?}, then {narrow:?}");
+                println!("  bundle {}", hex(bundle));
+            }
         }
     }
 
@@ -265,22 +338,6 @@ impl Comparer {
             8 => self.tally.count_twins(opening::beside_twins(bundle, record)),
             _ => {}
         }
-    }
-
-    /// Compares opening and check by `fast` with the plain ones, and gives the number of the check.
-    fn fast(&mut self, bundle: &[u8], random: &mut Random) -> u8 {
-        let mut scratch = self.noise(plain::SCRATCH + 40, random).to_vec();
-        let mut scratch_2 = scratch.clone();
-        let (mut opened, mut checked) = ([9; 8], [9; 8]);
-        let open = plain::Reply { number: fast::open(bundle, &mut opened), values: opened };
-        let check = plain::Reply { number: fast::check(bundle, &mut scratch_2, &mut checked), values: checked };
-        let (expected_open, expected) = (plain::open(bundle), plain::check(bundle, &mut scratch));
-        if open != expected_open || check != expected || scratch != scratch_2 {
-            self.tally.differences += 1;
-            println!("different: plain gives {expected_open:?} {expected:?}, fast {open:?} {check:?}");
-            println!("  bundle {}", hex(bundle));
-        }
-        expected.number
     }
 }
 
@@ -307,6 +364,10 @@ pub fn choose(random: &mut Random, bundle: &[u8], parts: &Parts) -> Vec<Call> {
     let (function, tuple) = chooser.send();
     let count = chooser.count(bundle, function, tuple);
     calls.push(Call::RunAccepted(function, tuple, count));
+    let opened = rough::Opened::of(bundle);
+    for _ in 0..2 {
+        calls.extend(chooser.rough(opened.as_ref()));
+    }
     calls.extend(listings(bundle));
     calls
 }
@@ -361,6 +422,15 @@ impl Chooser<'_> {
         class as u64
     }
 
+    /// A class, or one under it; or, once in a while, any class.
+    fn upper_class(&mut self, top: u8) -> u64 {
+        match self.random.below(12) {
+            0..=1 => self.number(self.parts.classes.len()),
+            2..=5 => self.walk_down(top) as u64,
+            _ => top.into(),
+        }
+    }
+
     fn walk_down(&mut self, top: u8) -> usize {
         let mut class = top as usize;
         for lower in class + 1..self.parts.classes.len() {
@@ -371,12 +441,13 @@ impl Chooser<'_> {
         class
     }
 
-    fn tuple(&mut self, function: u8, tops: [u8; 3]) -> [u64; 3] {
+    /// A class at each used place, chosen by the top for that place.
+    fn tuple(&mut self, function: u8, tops: [u8; 3], chosen: fn(&mut Self, u8) -> u64) -> [u64; 3] {
         let places = self.parts.functions.get(function as usize).copied().unwrap_or(3) as usize;
         let mut tuple = [0; 3];
         for place in 0..3 {
             if place < places {
-                tuple[place] = self.class_under(tops[place]);
+                tuple[place] = chosen(self, tops[place]);
             } else if self.random.once_in(40) {
                 tuple[place] = self.number(self.parts.classes.len());
             }
@@ -389,24 +460,43 @@ impl Chooser<'_> {
         let number = self.number(self.parts.signatures.len());
         match self.parts.signatures.get(number as usize) {
             None => (number, [self.random.below(3) as u64, 0, 0]),
-            Some(signature) => (number, self.tuple(signature.function, signature.arguments)),
+            Some(signature) => (number, self.tuple(signature.function, signature.arguments, Self::class_under)),
         }
     }
 
-    /// A function and classes: those of a signature, of a method, or any.
+    /// A function and classes under those of a signature, of a method, or any.
     fn send(&mut self) -> (u64, [u64; 3]) {
+        let (function, tops) = self.function();
+        (function, self.tuple(function as u8, tops, Self::class_under))
+    }
+
+    /// A function with the classes of a signature or of a method, or any function with class 0.
+    fn function(&mut self) -> (u64, [u8; 3]) {
         let parts = self.parts;
         let kind = self.random.below(8);
         if kind < 4 && !parts.signatures.is_empty() {
             let signature = &parts.signatures[self.random.below(parts.signatures.len())];
-            return (signature.function.into(), self.tuple(signature.function, signature.arguments));
+            return (signature.function.into(), signature.arguments);
         }
         if kind < 7 && !parts.methods.is_empty() {
             let method = &parts.methods[self.random.below(parts.methods.len())];
-            return (method.function.into(), self.tuple(method.function, method.specialisers));
+            return (method.function.into(), method.specialisers);
         }
-        let function = self.number(parts.functions.len());
-        (function, self.tuple(function as u8, [0; 3]))
+        (self.number(parts.functions.len()), [0; 3])
+    }
+
+    /// A rough call, and where the bundle opens one with classes under those of that one. Where it opens, the tuples are so few
+    /// that `plain` can try all.
+    fn rough(&mut self, opened: Option<&rough::Opened>) -> Vec<Call> {
+        let (function, tops) = self.function();
+        let uppers = self.tuple(function as u8, tops, Self::upper_class);
+        let Some(opened) = opened else {
+            return vec![Call::Rough(function, uppers)];
+        };
+        let work = if self.random.once_in(50) { generate::MUCH_WORK } else { generate::WORK };
+        let wide = opened.within(self.random, work, function, uppers);
+        let narrow = opened.narrower(self.random, function, wide);
+        vec![Call::Rough(function, wide), Call::Rough(function, narrow)]
     }
 
     /// A line of the chart of a function, most often one of two arguments, in a buffer about as long as the line.
@@ -471,7 +561,7 @@ pub fn every(bundle: &[u8]) -> Vec<Call> {
     for tuple in tuples {
         calls.extend((0..=counts[2]).chain([WIDE]).map(|signature| Call::Witness(signature, tuple)));
         for function in (0..=counts[1]).chain([WIDE]) {
-            calls.extend([Call::Lookup(function, tuple), Call::SendType(function, tuple)]);
+            calls.extend([Call::Lookup, Call::Rough, Call::SendType].map(|call| call(function, tuple)));
             for count in [0, 1, 2, 31, 32, 33, u32::MAX] {
                 calls.extend([Call::Run(function, tuple, count), Call::RunAccepted(function, tuple, count)]);
             }

@@ -5,9 +5,9 @@ use crate::hierarchy::Hierarchy;
 use builder::{Method, Parts, Random, ARG, NEW, SEND};
 
 /// How many tuples a check of the bundle may have to try, times methods, so that no bundle takes long.
-const WORK: usize = 60_000;
+pub const WORK: usize = 60_000;
 const MORE_WORK: usize = 600_000;
-const MUCH_WORK: usize = 6_000_000;
+pub const MUCH_WORK: usize = 6_000_000;
 
 /// A bundle that opens.
 pub fn parts(random: &mut Random, number: usize) -> Parts {

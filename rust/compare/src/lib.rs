@@ -10,6 +10,7 @@ pub mod json;
 pub mod long;
 pub mod opening;
 pub mod rivals;
+pub mod rough;
 pub mod sections;
 pub mod tally;
 pub mod vectors;
@@ -42,6 +43,7 @@ pub fn given_bundles(bundles: &[Vec<u8>], comparer: &mut Comparer) {
         Call::Open,
         Call::Check,
         Call::Body(0),
+        Call::Rough(0, [0; 3]),
         Call::Run(0, [0; 3], 100),
         Call::Listing(plain::TEXT),
         Call::Chart(0, 1, plain::LINE),

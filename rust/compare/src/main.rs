@@ -1,5 +1,5 @@
 //! `compare [BUNDLES [SEED]]` compares over the sample bundles and over so many made ones, 100,000 where none is said. The
-//! seed is 1 where none is said, so that a run can be repeated. `compare vectors FOLDER` holds both implementations to
+//! seed is 1 where none is said, so that a run can be repeated. `compare vectors FOLDER` holds the implementations to
 //! cases with expected answers.
 
 use compare::calls::Comparer;

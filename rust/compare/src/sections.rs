@@ -13,6 +13,16 @@ pub fn section(bundle: &[u8], pair: usize) -> Range<usize> {
     start..start + two_bytes(bundle, 4 * pair + 2)
 }
 
+/// The bytes of each class record, of which the first says whether the class is concrete.
+pub fn classes(bundle: &[u8]) -> &[[u8; 6]] {
+    bundle[section(bundle, CLASSES.pair)].as_chunks().0
+}
+
+/// For each function its argument count.
+pub fn functions(bundle: &[u8]) -> &[u8] {
+    &bundle[section(bundle, FUNCTIONS)]
+}
+
 /// The bytes of each method record.
 pub fn methods(bundle: &[u8]) -> &[[u8; 12]] {
     bundle[section(bundle, METHODS.pair)].as_chunks().0
@@ -29,6 +39,8 @@ pub struct Listed {
     pub entry: usize,
 }
 
+/// The functions' pair of the directory.
+const FUNCTIONS: usize = 2;
 pub const CLASSES: Listed = Listed { pair: 0, record: 6, entry: 1 };
 pub const METHODS: Listed = Listed { pair: 4, record: 12, entry: 2 };
 

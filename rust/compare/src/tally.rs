@@ -1,9 +1,10 @@
 //! What was seen.
 
+use crate::rough::{self, KINDS, NARROWED};
 use std::fmt;
 
 /// The numbers of refusals, and 0 for an answer.
-pub const NUMBERS: usize = 24;
+pub const NUMBERS: usize = 25;
 
 /// How many methods in one bucket are many.
 const MANY: usize = 16;
@@ -31,6 +32,10 @@ pub struct Tally {
     pub beside_twins: [usize; 2],
     /// How many bundles were refused by 4, and by 7, because a list was off by one, for each place.
     pub off_by_one: [[usize; 4]; 2],
+    /// How many rough answers were of each kind.
+    pub rough: [usize; KINDS.len()],
+    /// How many pairs of rough answers there were, of which the second is for classes under those of the first.
+    pub narrowed: [usize; NARROWED.len()],
     /// How many runs ended with a value, spent, and deep.
     pub ends: [usize; 3],
     /// The most steps that a run made.
@@ -54,6 +59,20 @@ impl Tally {
     pub fn count_run(&mut self, values: [u64; 8]) {
         self.ends[values[0] as usize % 3] += 1;
         self.most_steps = self.most_steps.max(values[7]);
+    }
+
+    /// Counts a rough answer by its kinds.
+    pub fn count_rough(&mut self, kinds: rough::Kinds) {
+        for (count, met) in self.rough.iter_mut().zip(kinds) {
+            *count += met as usize;
+        }
+    }
+
+    /// Counts two rough answers of which the second is for classes under those of the first.
+    pub fn count_narrowed(&mut self, wide: u64, narrow: u64) {
+        for (count, (before, after, _)) in self.narrowed.iter_mut().zip(NARROWED) {
+            *count += ((before, after) == (wide, narrow)) as usize;
+        }
     }
 
     /// Counts an ambiguous send by the methods that apply to it, both lists rising. Where there are but two rivals, and no beaten
@@ -85,7 +104,7 @@ impl Tally {
     }
 
     /// The numbers 0 to 17 that no check gave, those from 18 on, which are not a check's own, that no call gave, and the kinds of
-    /// ambiguous sends and of openings that no call met.
+    /// ambiguous sends, of openings and of rough answers that no call met.
     pub fn never_seen(&self) -> Vec<String> {
         let seen = |number: usize| match number {
             0..=17 => self.checks[number] != 0,
@@ -101,12 +120,30 @@ impl Tally {
             (between, "twins with others of their bucket between them"),
         ];
         never.extend(kinds.into_iter().filter(|(count, _)| *count == 0).map(|(_, kind)| kind.to_string()));
+        let rough = self.rough_counts().into_iter().chain(self.narrowed_counts());
+        never.extend(rough.filter(|(count, _)| *count == 0).map(|(_, kind)| format!("rough answer: {kind}")));
         for (number, counts) in [4, 7].into_iter().zip(self.off_by_one) {
             let places = PLACES.into_iter().zip(counts).filter(|(_, count)| *count == 0);
             never.extend(places.map(|(place, _)| format!("{number} off by one where {place}")));
         }
         never
     }
+
+    /// How many rough answers were of each kind, with the kind's name.
+    fn rough_counts(&self) -> Vec<(usize, &'static str)> {
+        self.rough.into_iter().zip(KINDS).collect()
+    }
+
+    /// How many pairs of rough answers there were, with the pair's name.
+    fn narrowed_counts(&self) -> Vec<(usize, &'static str)> {
+        self.narrowed.into_iter().zip(NARROWED).map(|(count, (_, _, name))| (count, name)).collect()
+    }
+}
+
+/// Counts with what was counted.
+fn listed(counts: &[(usize, &str)]) -> String {
+    let counts: Vec<String> = counts.iter().map(|(count, what)| format!("{count} {what}")).collect();
+    counts.join(", ")
 }
 
 impl fmt::Display for Tally {
@@ -132,6 +169,8 @@ impl fmt::Display for Tally {
                 PLACES.into_iter().zip(counts).map(|(place, count)| format!("{count} where {place}")).collect();
             writeln!(f, "lists off by one, number {number}: {}", places.join(", "))?;
         }
+        writeln!(f, "rough answers: {}", listed(&self.rough_counts()))?;
+        writeln!(f, "rough answers for classes under those of others: {}", listed(&self.narrowed_counts()))?;
         let [value, spent, deep] = self.ends;
         writeln!(f, "runs: {value} value, {spent} spent, {deep} deep; at most {} steps", self.most_steps)
     }

@@ -1,14 +1,15 @@
 //! Cases with expected answers: files of one JSON object a line, each a bundle with an answer or with calls.
 
-use crate::calls::Call;
+use crate::calls::{Buffers, Call};
 use crate::json::Json;
+use curiumtoad::raw;
 use std::path::Path;
 use std::process::ExitCode;
 
 /// The files and the call that each is about; the fields of a case name the call where there are several.
-const FILES: [&str; 8] = ["opening", "check", "lookup", "witness", "sendtype", "run", "view", "chart"];
+const FILES: [&str; 9] = ["opening", "check", "lookup", "witness", "sendtype", "run", "view", "chart", "rough"];
 
-/// Holds both implementations to the files of a folder, which has one or more of them.
+/// Holds the implementations to the files of a folder, which has one or more of them.
 pub fn compare(folder: &Path) -> ExitCode {
     let mut counts = Counts::default();
     let present: Vec<_> = FILES.into_iter().filter(|file| folder.join(file).with_extension("jsonl").exists()).collect();
@@ -73,28 +74,38 @@ fn call(case: &Json) -> Option<Call> {
         ("sendtype", 4) => Call::SendType(n[0], [n[1], n[2], n[3]]),
         ("run", 5) => Call::Run(n[0], [n[1], n[2], n[3]], u32::try_from(n[4]).ok()?),
         ("view", 1) => Call::Body(n[0]),
+        ("rough", 4) => Call::Rough(n[0], [n[1], n[2], n[3]]),
         ("chart", 3) => Call::Chart(n[0], n[1], usize::try_from(n[2]).ok()?),
         _ => return None,
     })
 }
 
-/// Makes a call by both implementations and holds both to the expected answer.
+/// Makes a call by the implementations that have it and holds each to the expected answer.
 fn made(bundle: &[u8], call: &Call, case: &Json, counts: &mut Counts) -> Option<()> {
     let expected = expected(call, case.get("answer")?)?;
     let mut left = Lent::before(call);
     if expected.0 == 0 {
         left.write(case)?;
     }
-    let mut scratch = [7; plain::SCRATCH];
-    let (mut by_plain, mut by_library) = (Lent::before(call), Lent::before(call));
-    let reply = call.by_plain(bundle, [&mut scratch, &mut by_plain.row, &mut by_plain.text]);
-    let mut values = [7; 8];
-    let number = call.by_library(bundle, [&mut scratch, &mut by_library.row, &mut by_library.text], &mut values);
-    for (who, said, left_by) in
-        [("plain", (reply.number, reply.values), by_plain), ("the library", (number, values), by_library)]
-    {
+    type Maker = fn(&Call, &[u8], Buffers, &mut raw::Values) -> Option<u8>;
+    let makers: [(&str, Maker); 3] = [
+        ("plain", |call, bundle, buffers, values| {
+            let reply = call.by_plain(bundle, buffers);
+            *values = reply.values;
+            Some(reply.number)
+        }),
+        ("the library", |call, bundle, buffers, values| Some(call.by_library(bundle, buffers, values))),
+        ("fast", Call::by_fast),
+    ];
+    for (who, make) in makers {
+        let (mut lent, mut values) = (Lent::before(call), [7; 8]);
+        let buffers: Buffers = [&mut [7; plain::SCRATCH], &mut lent.row, &mut lent.text];
+        let Some(number) = make(call, bundle, buffers, &mut values) else {
+            continue;
+        };
+        let said = (number, values);
         counts.calls += 1;
-        if said != expected || left_by != left {
+        if said != expected || lent != left {
             counts.wrong += 1;
             println!("{call:?}: {who} gives {said:?}, expected {expected:?}; bundle {}", builder::hex(bundle));
         }
@@ -140,6 +151,12 @@ fn expected(call: &Call, answer: &Json) -> Option<(u8, [u64; 8])> {
             Call::Lookup(..) => values.push(field("method").or(field("answer"))?),
             Call::Body(..) => values.extend([field("start")?, field("length")?]),
             Call::Chart(..) => values.push(field("length")?),
+            Call::Rough(..) => match answer.get("answer")?.word()? {
+                "one" => values.extend([0, field("method")?]),
+                "may fail" => values.push(1),
+                "several" => values.push(2),
+                _ => return None,
+            },
             Call::Run(..) => match answer.get("end")?.word()? {
                 "value" => values.extend([0, field("class")?]),
                 "spent" => values.push(1),

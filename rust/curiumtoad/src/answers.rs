@@ -269,6 +269,44 @@ fn sent_reply(number: u8, sent: &Sent, methods: &[u64]) -> Reply {
     Reply::new(number, &[&[sent.function, a0, a1, a2], methods].concat())
 }
 
+/// The answer of a rough call, by what the tuples find that have a concrete class under the upper class at each place.
+#[derive(Clone, Copy, Debug, PartialEq, Eq)]
+pub enum Rough {
+    /// Every tuple finds this method.
+    One(u64),
+    /// Some tuple finds no method, or rivals, whatever the others find.
+    MayFail,
+    /// Every tuple finds a method, and not all find the same.
+    Several,
+    /// 24: an upper class has no concrete class under it.
+    NoConcrete,
+    /// The call was refused.
+    Refused(Refusal),
+}
+
+impl Answer for Rough {
+    fn of(reply: Reply) -> Self {
+        match (reply.number, reply.values[0]) {
+            (0, 0) => Rough::One(reply.values[1]),
+            (0, 1) => Rough::MayFail,
+            (0, 2) => Rough::Several,
+            (0, _) => never_given(reply),
+            (24, _) => Rough::NoConcrete,
+            _ => Rough::Refused(Refusal::of(reply)),
+        }
+    }
+
+    fn reply(&self) -> Reply {
+        match self {
+            Rough::One(method) => Reply::new(0, &[0, *method]),
+            Rough::MayFail => Reply::new(0, &[1]),
+            Rough::Several => Reply::new(0, &[2]),
+            Rough::NoConcrete => Reply::new(24, &[]),
+            Rough::Refused(refusal) => refusal.reply(),
+        }
+    }
+}
+
 /// The answer of a send type call; the type itself is in the row.
 #[derive(Clone, Copy, Debug, PartialEq, Eq)]
 pub enum SendType {

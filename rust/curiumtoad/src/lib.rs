@@ -24,7 +24,7 @@ pub mod raw;
 
 pub use answers::{
     AcceptedRun, Answer, BodyFault, BrokenBody, BrokenSignature, Chart, Counts, Ending, Fault, Finding, Lookup,
-    Refusal, Reply, Run, SendType, Sent, Verdict, Witness,
+    Refusal, Reply, Rough, Run, SendType, Sent, Verdict, Witness,
 };
 
 use std::ops::Range;
@@ -98,6 +98,27 @@ pub fn ancestry(bundle: &[u8], scratch: &mut [u8], a: u64, b: u64) -> Result<boo
 /// ```
 pub fn lookup(bundle: &[u8], scratch: &mut [u8], function: u64, arguments: [u64; 3]) -> Lookup {
     Answer::of(raw::reply(|values| raw::lookup(bundle, scratch, function, arguments, values)))
+}
+
+/// What a send finds whose arguments are known only roughly, each to be under an upper class, which may be abstract. Every
+/// tuple counts that has a concrete class under the upper class at each place, that class itself included where it is
+/// concrete. Signatures and declared classes play no part.
+///
+/// With classes under the upper ones in their stead, [`Rough::One`] stays that method, and [`Rough::Several`] becomes
+/// [`Rough::Several`] or [`Rough::One`], unless one of these has no concrete class under it.
+///
+/// ```
+/// use curiumtoad::{rough, Rough, SCRATCH};
+///
+/// let bundle = std::fs::read("../../bundles/chart-4.bundle")?;
+/// let mut scratch = [0; SCRATCH];
+/// assert_eq!(rough(&bundle, &mut scratch, 0, [0, 0, 0]), Rough::MayFail);
+/// assert_eq!(rough(&bundle, &mut scratch, 0, [1, 3, 0]), Rough::Several);
+/// assert_eq!(rough(&bundle, &mut scratch, 0, [2, 4, 0]), Rough::One(3));
+/// # Ok::<(), std::io::Error>(())
+/// ```
+pub fn rough(bundle: &[u8], scratch: &mut [u8], function: u64, uppers: [u64; 3]) -> Rough {
+    Answer::of(raw::reply(|values| raw::rough(bundle, scratch, function, uppers, values)))
 }
 
 /// The static type of a send, for a class at each argument place: byte b of the row's first [`ROW`] bytes becomes 1 when

@@ -61,6 +61,7 @@ calls! {
     open = curiumtoad_open [] ();
     ancestry = curiumtoad_ancestry [scratch] (a, b);
     lookup = curiumtoad_lookup [scratch] (function) (a0, a1, a2);
+    rough = curiumtoad_rough [scratch] (function) (a0, a1, a2);
     send_type = curiumtoad_send_type [scratch, row] (function) (a0, a1, a2);
     check = curiumtoad_check [scratch] ();
     witness = curiumtoad_witness [scratch] (signature) (a0, a1, a2);

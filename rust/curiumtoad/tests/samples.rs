@@ -1,9 +1,9 @@
 //! The sample bundles by the wrapper's types, and buffers of every length.
 
 use curiumtoad::{
-    ancestry, body, chart, check, listing, lookup, open, run, run_accepted, send_type, witness, AcceptedRun, BodyFault,
-    BrokenBody, BrokenSignature, Chart, Ending, Fault, Finding, Lookup, Refusal, Run, SendType, Sent, Verdict, Witness,
-    LINE, ROW, SCRATCH, TEXT,
+    ancestry, body, chart, check, listing, lookup, open, rough, run, run_accepted, send_type, witness, AcceptedRun,
+    BodyFault, BrokenBody, BrokenSignature, Chart, Ending, Fault, Finding, Lookup, Refusal, Rough, Run, SendType, Sent,
+    Verdict, Witness, LINE, ROW, SCRATCH, TEXT,
 };
 
 fn sample(name: &str) -> Vec<u8> {
@@ -73,6 +73,7 @@ fn empty_buffers_are_refused() {
     assert_eq!(check(&[], &mut []), Verdict::Refused(Refusal::Length));
     assert_eq!(check(&bundle, &mut []), Verdict::Refused(Refusal::Scratch));
     assert_eq!(ancestry(&bundle, &mut [], 0, 0), Err(Refusal::Scratch));
+    assert_eq!(rough(&bundle, &mut [], 0, [1, 3, 0]), Rough::Refused(Refusal::Scratch));
     assert_eq!(send_type(&bundle, &mut [], &mut [], 0, [1, 3, 0]), SendType::Refused(Refusal::Scratch));
     assert_eq!(send_type(&bundle, &mut [0; SCRATCH], &mut [], 0, [1, 3, 0]), SendType::Refused(Refusal::Row));
     assert_eq!(chart(&bundle, &mut [], &mut [], 0, 0), Chart::Refused(Refusal::Scratch));
@@ -109,11 +110,48 @@ fn absent_numbers_are_refused_whatever_their_width() {
         assert_eq!(lookup(&bundle, &mut scratch, 0, [1, number, 0]), Lookup::Refused(Refusal::Absent));
         assert_eq!(lookup(&bundle, &mut scratch, number, [1, 3, 0]), Lookup::Refused(Refusal::Absent));
         assert_eq!(lookup(&bundle, &mut scratch, 0, [1, 3, number]), Lookup::Refused(Refusal::Absent));
+        assert_eq!(rough(&bundle, &mut scratch, 0, [number, 3, 0]), Rough::Refused(Refusal::Absent));
+        assert_eq!(rough(&bundle, &mut scratch, number, [1, 3, 0]), Rough::Refused(Refusal::Absent));
+        assert_eq!(rough(&bundle, &mut scratch, 0, [1, 3, number]), Rough::Refused(Refusal::Absent));
         assert_eq!(witness(&bundle, &mut scratch, number, [1, 3, 0]), Witness::Refused(Refusal::Absent));
         assert_eq!(run(&bundle, &mut scratch, number, [1, 3, 0], 1), Run::Refused(Refusal::Absent));
         assert_eq!(chart(&bundle, &mut scratch, &mut [], number, 0), Chart::Refused(Refusal::Absent));
         assert_eq!(chart(&bundle, &mut scratch, &mut [], 0, number), Chart::NoLine);
     }
+}
+
+fn roughly(name: &str, uppers: [u64; 3]) -> Rough {
+    rough(&sample(name), &mut [0; SCRATCH], 0, uppers)
+}
+
+#[test]
+fn rough_answers_on_the_samples() {
+    // In chart-4 four methods take classes 1 and 2 with 3 and 4; in chart-3 the one for 2 and 4 is missing.
+    assert_eq!(roughly("chart-4", [1, 3, 0]), Rough::Several);
+    assert_eq!(roughly("chart-4", [1, 4, 0]), Rough::Several);
+    assert_eq!(roughly("chart-4", [2, 4, 0]), Rough::One(3));
+    assert_eq!(roughly("chart-3", [1, 3, 0]), Rough::MayFail);
+    assert_eq!(roughly("chart-3", [2, 4, 0]), Rough::MayFail);
+    assert_eq!(roughly("chart-3", [2, 3, 0]), Rough::MayFail);
+    assert_eq!(roughly("chart-3", [6, 7, 0]), Rough::MayFail);
+    // Class 0 is abstract, so that a method for the one class under it is enough.
+    assert_eq!(roughly("abstract-argument", [0, 0, 0]), Rough::One(0));
+    // The method found would refuse class 0 by its declared class.
+    assert_eq!(roughly("narrow-declared", [0, 0, 0]), Rough::One(0));
+    assert_eq!(roughly("three-argument-tie", [0, 0, 0]), Rough::MayFail);
+    assert_eq!(roughly("loop", [0, 0, 0]), Rough::One(0));
+}
+
+#[test]
+fn a_used_place_needs_a_concrete_class() {
+    assert_eq!(roughly("no-concrete-class", [0, 0, 0]), Rough::NoConcrete);
+    assert_eq!(roughly("no-concrete-class", [0, 0, 1]), Rough::Refused(Refusal::Absent));
+    // Classes 2, 3 and 4 are abstract, and class 5 is under each of them.
+    assert_eq!(roughly("three-rivals", [2, 0, 0]), Rough::MayFail);
+    // With its one class abstract, the sample has no concrete class, and its function no place for one.
+    let mut bundle = sample("loop");
+    bundle[24] = 0;
+    assert_eq!(rough(&bundle, &mut [0; SCRATCH], 0, [0; 3]), Rough::One(0));
 }
 
 /// The chart of function 0, line after line.

@@ -1,4 +1,4 @@
-//! Coverage, with sets of methods as words of bits.
+//! Coverage and rough answers, with sets of methods as words of bits.
 
 use crate::layout::Tables;
 use crate::Broken;
@@ -15,11 +15,30 @@ pub fn check(tables: &Tables) -> Result<(), Broken> {
     functions.resize_with(tables.functions.len(), || None);
     for (number, signature) in tables.signatures.iter().enumerate() {
         let function = signature[0] as usize;
-        let sets = functions[function].get_or_insert_with(|| AnyFunction::of(tables, signature[0], counts[function]));
+        let sets = functions[function].get_or_insert_with(|| {
+            AnyFunction::of(tables, signature[0], counts[function], |method, place| method[4 + place])
+        });
         sets.check(tables, number, signature)?;
     }
     Ok(())
 }
+
+/// What the tuples find that have a concrete class under the upper class at each place.
+pub enum Rough {
+    One(u16),
+    MayFail,
+    Several,
+}
+
+/// None where an upper class has no concrete class under it.
+pub fn rough(tables: &Tables, function: u8, uppers: [u8; 3]) -> Option<Rough> {
+    let count = tables.methods.iter().filter(|method| method[0] == function).count();
+    // What is declared does not matter, and every class is under class 0.
+    AnyFunction::of(tables, function, count, |_, _| 0).rough(tables, uppers)
+}
+
+/// The class that counts as declared by a method at a place.
+type Declared = fn(&[u8; 12], usize) -> u8;
 
 /// The sets of a function, in words enough for its methods.
 enum AnyFunction {
@@ -30,12 +49,12 @@ enum AnyFunction {
 }
 
 impl AnyFunction {
-    fn of(tables: &Tables, function: u8, count: usize) -> AnyFunction {
+    fn of(tables: &Tables, function: u8, count: usize, declared: Declared) -> AnyFunction {
         match count {
-            0..=64 => AnyFunction::One(Function::of(tables, function)),
-            65..=128 => AnyFunction::Two(Function::of(tables, function)),
-            129..=256 => AnyFunction::Four(Function::of(tables, function)),
-            _ => AnyFunction::Eight(Function::of(tables, function)),
+            0..=64 => AnyFunction::One(Function::of(tables, function, declared)),
+            65..=128 => AnyFunction::Two(Function::of(tables, function, declared)),
+            129..=256 => AnyFunction::Four(Function::of(tables, function, declared)),
+            _ => AnyFunction::Eight(Function::of(tables, function, declared)),
         }
     }
 
@@ -45,6 +64,15 @@ impl AnyFunction {
             AnyFunction::Two(sets) => sets.check(tables, number, signature),
             AnyFunction::Four(sets) => sets.check(tables, number, signature),
             AnyFunction::Eight(sets) => sets.check(tables, number, signature),
+        }
+    }
+
+    fn rough(&mut self, tables: &Tables, uppers: [u8; 3]) -> Option<Rough> {
+        match self {
+            AnyFunction::One(sets) => sets.rough(tables, uppers),
+            AnyFunction::Two(sets) => sets.rough(tables, uppers),
+            AnyFunction::Four(sets) => sets.rough(tables, uppers),
+            AnyFunction::Eight(sets) => sets.rough(tables, uppers),
         }
     }
 }
@@ -65,7 +93,7 @@ struct Function<const W: usize> {
 }
 
 impl<const W: usize> Function<W> {
-    fn of(tables: &Tables, function: u8) -> Function<W> {
+    fn of(tables: &Tables, function: u8, declared: Declared) -> Function<W> {
         let places = tables.functions[function as usize] as usize;
         let methods = tables.methods;
         let mut order: Vec<u16> = (0..methods.len() as u16).filter(|&m| methods[m as usize][0] == function).collect();
@@ -78,7 +106,7 @@ impl<const W: usize> Function<W> {
         let mut holding: [Vec<Set<W>>; 3] = Default::default();
         for place in 0..places {
             let specialiser = |m: u16| methods[m as usize][1 + place];
-            let declared = |m: u16| methods[m as usize][4 + place];
+            let declared = |m: u16| declared(&methods[m as usize], place);
             groups[place] = group(tables, class_set(&order, specialiser), class_set(&order, declared));
             applying[place] = above(tables, &order, specialiser);
             holding[place] = above(tables, &order, declared);
@@ -100,20 +128,43 @@ impl<const W: usize> Function<W> {
             let good = tables.under(tables.methods[m as usize][7], signature[4]);
             results[bit / 64] |= (good as u64) << (bit % 64);
         }
-        let mut tried: [Vec<u8>; 3] = Default::default();
-        for place in 0..self.places {
-            tried[place] = self.tried(tables, place, signature[1 + place]);
-        }
-        let all = first_bits::<W>(self.order.len());
-        self.kept.begin();
-        match self.search(&tried, 0, &all, &results) {
+        let tried = self.tried(tables, [signature[1], signature[2], signature[3]]);
+        match self.first_broken(&tried, &results) {
             None => Ok(()),
             Some(tuple) => Err(self.reason(tables, number, signature, tuple)),
         }
     }
 
+    /// Searches for a tuple that does not find what the first one finds, and where there is one, for a tuple that fails.
+    fn rough(&mut self, tables: &Tables, uppers: [u8; 3]) -> Option<Rough> {
+        let tried = self.tried(tables, uppers);
+        let mut first = [0; 3];
+        for (class, tried) in first.iter_mut().zip(&tried[..self.places]) {
+            *class = *tried.first()?;
+        }
+        let Some(found) = lowest(&self.apply(first)) else {
+            return Some(Rough::MayFail);
+        };
+        let mut alone = [0; W];
+        alone[found / 64] = 1 << (found % 64);
+        if self.first_broken(&tried, &alone).is_none() {
+            return Some(Rough::One(self.order[found]));
+        }
+        let all = first_bits(self.order.len());
+        Some(if self.first_broken(&tried, &all).is_none() { Rough::Several } else { Rough::MayFail })
+    }
+
+    /// The classes to try at each place.
+    fn tried(&self, tables: &Tables, tops: [u8; 3]) -> [Vec<u8>; 3] {
+        let mut tried: [Vec<u8>; 3] = Default::default();
+        for place in 0..self.places {
+            tried[place] = self.tried_at(tables, place, tops[place]);
+        }
+        tried
+    }
+
     /// The concrete classes under a class, but of those that no method tells apart at this place only the lowest.
-    fn tried(&self, tables: &Tables, place: usize, top: u8) -> Vec<u8> {
+    fn tried_at(&self, tables: &Tables, place: usize, top: u8) -> Vec<u8> {
         let mut seen = 0u128;
         let mut concrete = tables.concrete;
         let mut tried = Vec::with_capacity(128);
@@ -127,6 +178,12 @@ impl<const W: usize> Function<W> {
             }
         }
         tried
+    }
+
+    /// The first tuple that finds no method, or none of the good ones.
+    fn first_broken(&mut self, tried: &[Vec<u8>; 3], good: &Set<W>) -> Option<[u8; 3]> {
+        self.kept.begin();
+        self.search(tried, 0, &first_bits(self.order.len()), good)
     }
 
     /// The first broken tuple, given the methods that apply at the places before and those of them that are good there.
@@ -181,25 +238,24 @@ impl<const W: usize> Function<W> {
 
     /// Whether the first method that applies leads all that apply, and is good.
     fn leads(&self, apply: &Set<W>, good: &Set<W>) -> bool {
-        let Some(word) = (0..W).find(|&word| apply[word] != 0) else {
+        let Some(first) = lowest(apply).filter(|&first| has(good, first)) else {
             return false;
         };
-        let bit = apply[word].trailing_zeros() as usize;
-        if good[word] >> bit & 1 == 0 {
-            return false;
-        }
-        let below = &self.below[64 * word + bit];
+        let below = &self.below[first];
         (0..W).all(|word| apply[word] & !below[word] == 0)
+    }
+
+    /// The methods that apply to a tuple.
+    fn apply(&self, tuple: [u8; 3]) -> Set<W> {
+        let sets = self.applying[..self.places].iter().zip(tuple);
+        sets.fold(first_bits(self.order.len()), |apply, (sets, class)| both(&apply, &sets[class as usize]))
     }
 
     /// Why a tuple is broken, and by which methods.
     fn reason(&self, tables: &Tables, number: usize, signature: &[u8; 5], tuple: [u8; 3]) -> Broken {
         let mut named = vec![number as u64, signature[0] as u64];
         named.extend(tuple.map(u64::from));
-        let mut apply = first_bits::<W>(self.order.len());
-        for (sets, class) in self.applying[..self.places].iter().zip(tuple) {
-            apply = both(&apply, &sets[class as usize]);
-        }
+        let apply = self.apply(tuple);
         let methods: Vec<usize> = (0..self.order.len()).filter(|&m| has(&apply, m)).collect();
         let Some(&first) = methods.first() else {
             return Broken::new(10, &named);
@@ -277,6 +333,11 @@ fn has<const W: usize>(set: &Set<W>, bit: usize) -> bool {
     set[bit / 64] >> (bit % 64) & 1 == 1
 }
 
+fn lowest<const W: usize>(set: &Set<W>) -> Option<usize> {
+    let word = (0..W).find(|&word| set[word] != 0)?;
+    Some(64 * word + set[word].trailing_zeros() as usize)
+}
+
 /// Groups of the classes: two are in one group when they are under the same specialisers and the same declared classes.
 fn group(tables: &Tables, specialisers: u128, declared: u128) -> [u8; 128] {
     let mut groups = [0; 128];
@@ -307,16 +368,16 @@ fn hash(words: impl Iterator<Item = u64>) -> u64 {
     words.fold(0, |sofar: u64, word| (sofar.rotate_left(5) ^ word).wrapping_mul(0x517c_c1b7_2722_0a95))
 }
 
-/// Sets of methods from which no tuple of the signature at hand is broken, with the place after which they were found. A
-/// later pair takes an earlier one's slot, so that the table stays small.
+/// Sets of methods from which no tuple of the search at hand is broken, with the place after which they were found. A later
+/// pair takes an earlier one's slot, so that the table stays small.
 struct Kept<const W: usize> {
     slots: Vec<Slot<W>>,
-    signature: u32,
+    search: u32,
 }
 
 #[derive(Clone)]
 struct Slot<const W: usize> {
-    /// The signature, counted from 1, and the place.
+    /// The search, counted from 1, and the place.
     found: (u32, u32),
     apply: Set<W>,
     good: Set<W>,
@@ -326,12 +387,12 @@ const KEPT: usize = 1024;
 
 impl<const W: usize> Kept<W> {
     fn new() -> Kept<W> {
-        Kept { slots: Vec::new(), signature: 0 }
+        Kept { slots: Vec::new(), search: 0 }
     }
 
-    /// Begins a signature: what was kept for the last one no longer counts.
+    /// Begins a search: what was kept for the last one no longer counts.
     fn begin(&mut self) {
-        self.signature += 1;
+        self.search += 1;
     }
 
     fn slot(place: usize, apply: &Set<W>, good: &Set<W>) -> usize {
@@ -340,7 +401,7 @@ impl<const W: usize> Kept<W> {
 
     fn has(&self, place: usize, apply: &Set<W>, good: &Set<W>) -> bool {
         match self.slots.get(Self::slot(place, apply, good)) {
-            Some(slot) => slot.found == (self.signature, place as u32) && slot.apply == *apply && slot.good == *good,
+            Some(slot) => slot.found == (self.search, place as u32) && slot.apply == *apply && slot.good == *good,
             None => false,
         }
     }
@@ -349,7 +410,7 @@ impl<const W: usize> Kept<W> {
         if self.slots.is_empty() {
             self.slots = vec![Slot { found: (0, 0), apply: [0; W], good: [0; W] }; KEPT];
         }
-        let found = (self.signature, place as u32);
+        let found = (self.search, place as u32);
         self.slots[Self::slot(place, apply, good)] = Slot { found, apply: *apply, good: *good };
     }
 }

@@ -110,7 +110,7 @@ impl<'a> Tables<'a> {
     }
 
     /// Whether the used places name classes and the others hold 0.
-    fn lawful(&self, arguments: u8, places: [u8; 3]) -> bool {
+    pub fn lawful(&self, arguments: u8, places: [u8; 3]) -> bool {
         let n = self.classes as u8;
         let bound = [[1, 1, 1], [n, 1, 1], [n, n, 1], [n, n, n]][arguments as usize];
         places[0] < bound[0] && places[1] < bound[1] && places[2] < bound[2]

@@ -2,7 +2,7 @@
 
 use crate::bundle::{Bundle, Signature};
 use crate::dispatch::{self, Found, Matrix};
-use crate::Triple;
+use crate::{tuples, Triple};
 
 /// Why a tuple breaks a signature: numbers 10 to 13.
 pub enum Fault {
@@ -34,32 +34,12 @@ pub fn fault(bundle: &Bundle, matrix: &Matrix, signature: &Signature, tuple: Tri
     None
 }
 
-/// The lowest broken signature with its first broken tuple, classes tried in rising order, place 0 outermost.
+/// The lowest broken signature with its first broken tuple.
 pub fn first_broken(bundle: &Bundle, matrix: &Matrix) -> Option<(usize, Triple, Fault)> {
-    for (number, signature) in bundle.signatures.iter().enumerate() {
-        if let Some((tuple, fault)) = broken_tuple(bundle, matrix, signature, 0, [0; 3]) {
-            return Some((number, tuple, fault));
-        }
-    }
-    None
-}
-
-/// Fills the places from `place` on with every concrete class that the signature covers there.
-fn broken_tuple(
-    bundle: &Bundle,
-    matrix: &Matrix,
-    signature: &Signature,
-    place: usize,
-    tuple: Triple,
-) -> Option<(Triple, Fault)> {
-    if place == bundle.functions[signature.function] {
-        return fault(bundle, matrix, signature, tuple).map(|fault| (tuple, fault));
-    }
-    (0..bundle.classes.len())
-        .filter(|&class| bundle.classes[class].concrete && matrix.under(class, signature.arguments[place]))
-        .find_map(|class| {
-            let mut longer = tuple;
-            longer[place] = class;
-            broken_tuple(bundle, matrix, signature, place + 1, longer)
+    bundle.signatures.iter().enumerate().find_map(|(number, signature)| {
+        let covered = &signature.arguments[..bundle.functions[signature.function]];
+        tuples::find(bundle, matrix, covered, |tuple| {
+            fault(bundle, matrix, signature, tuple).map(|fault| (number, tuple, fault))
         })
+    })
 }

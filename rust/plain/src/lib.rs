@@ -10,12 +10,15 @@ mod coverage;
 mod dispatch;
 mod listing;
 mod machine;
+mod rough;
+mod tuples;
 mod typing;
 
 use bundle::{Broken, Bundle};
 use coverage::Fault;
 use dispatch::{Found, Matrix};
 use machine::Ending;
+use rough::Rough;
 
 /// The classes of a call, a signature or a method, place by place. Unused places hold 0.
 pub type Triple = [usize; 3];
@@ -70,6 +73,7 @@ const NOT_BINARY: u8 = 21;
 const NO_LINE: u8 = 22;
 /// Of the buffer for a line of a chart.
 const SHORT_LINE: u8 = 23;
+const NO_CONCRETE: u8 = 24;
 
 /// Opens the bundle: the counts of classes, functions, signatures and methods.
 pub fn open(bundle: &[u8]) -> Reply {
@@ -106,6 +110,28 @@ pub fn lookup(bundle: &[u8], scratch: &mut [u8], function: u64, arguments: [u64;
         Found::One(method) => Reply::new(0, &[method]),
         Found::None => Reply::new(10, &[f, t[0], t[1], t[2]]),
         Found::Rivals(m, n) => Reply::new(11, &[f, t[0], t[1], t[2], m, n]),
+    }
+}
+
+/// What a send finds whose arguments are known only to be under these classes: 0 with the method where each tuple of concrete
+/// classes under them finds that one, 1 where one of them fails, else 2.
+pub fn rough(bundle: &[u8], scratch: &mut [u8], function: u64, uppers: [u64; 3]) -> Reply {
+    let (bundle, matrix) = match prepare(bundle, scratch) {
+        Err(refusal) => return refusal,
+        Ok(prepared) => prepared,
+    };
+    let (f, uppers) = numbers(function, uppers);
+    if !send_present(&bundle, f, uppers) {
+        return Reply::new(ABSENT, &[]);
+    }
+    let used = &uppers[..bundle.functions[f]];
+    if used.iter().any(|&upper| tuples::concrete_under(&bundle, &matrix, upper).next().is_none()) {
+        return Reply::new(NO_CONCRETE, &[]);
+    }
+    match rough::rough(&bundle, &matrix, f, used) {
+        Rough::One(method) => Reply::new(0, &[0, method]),
+        Rough::MayFail => Reply::new(0, &[1]),
+        Rough::Several => Reply::new(0, &[2]),
     }
 }
 

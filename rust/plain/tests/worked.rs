@@ -13,6 +13,10 @@ fn looked_up(parts: &Parts, a: u64, b: u64) -> Reply {
     plain::lookup(&parts.bytes(), &mut [7; SCRATCH], 0, [a, b, 0])
 }
 
+fn roughly(parts: &Parts, uppers: [u64; 3]) -> Reply {
+    plain::rough(&parts.bytes(), &mut [7; SCRATCH], 0, uppers)
+}
+
 fn ran(parts: &Parts, arguments: [u64; 3], count: u32) -> Reply {
     plain::run(&parts.bytes(), &mut [7; SCRATCH], 0, arguments, count)
 }
@@ -36,6 +40,53 @@ fn lookups() {
     assert_eq!(looked_up(&chart_3(), 2, 4), reply(11, &[0, 2, 4, 0, 1, 0]));
     assert_eq!(looked_up(&chart_4(), 2, 4), reply(0, &[3]));
     assert_eq!(looked_up(&three_rivals(), 5, 0), reply(11, &[0, 5, 0, 0, 3, 1]));
+}
+
+#[test]
+fn rough_answers() {
+    let one = |method| reply(0, &[0, method]);
+    let (may_fail, several) = (reply(0, &[1]), reply(0, &[2]));
+    assert_eq!(roughly(&chart_4(), [1, 3, 0]), several);
+    assert_eq!(roughly(&chart_4(), [1, 4, 0]), several);
+    assert_eq!(roughly(&chart_4(), [2, 4, 0]), one(3));
+    // Three tuples find three methods before the fourth is ambiguous.
+    assert_eq!(roughly(&chart_3(), [1, 3, 0]), may_fail);
+    assert_eq!(roughly(&chart_3(), [0, 0, 0]), may_fail);
+    // Class 5 alone is concrete, and under the others.
+    assert_eq!(roughly(&three_rivals(), [2, 0, 0]), may_fail);
+    assert_eq!(roughly(&looping(), [0; 3]), one(0));
+    // What the declared classes do not hold is found all the same.
+    assert_eq!(roughly(&several_broken(), [1, 0, 0]), several);
+    assert_eq!(roughly(&several_broken(), [1, 3, 0]), one(3));
+}
+
+/// 19 comes before 18, and 18 before 24, which is about used places alone.
+#[test]
+fn refused_rough_calls() {
+    let mut parts = Parts::default();
+    parts.class(false, &[]);
+    parts.class(true, &[0]);
+    parts.class(false, &[0]);
+    parts.functions.extend([2, 0]);
+    parts.method(1, [0; 3], 0, &[[NEW, 1]]);
+    let bundle = parts.bytes();
+    let asked = |scratch, function, uppers| plain::rough(&bundle, &mut vec![7; scratch], function, uppers);
+    assert_eq!(plain::rough(&bundle[1..], &mut [], 2, [3, 3, 3]), reply(2, &[]));
+    assert_eq!(asked(SCRATCH - 1, 0, [2, 3, 0]), reply(19, &[]));
+    for (function, uppers) in [(2, [0, 0, 0]), (0, [2, 3, 0]), (0, [2, 1 << 63, 0]), (0, [2, 0, 1]), (1, [1, 0, 0])] {
+        assert_eq!(asked(SCRATCH, function, uppers), reply(18, &[]));
+    }
+    assert_eq!(asked(SCRATCH, 0, [2, 1, 0]), reply(24, &[]));
+    assert_eq!(asked(SCRATCH, 0, [0, 2, 0]), reply(24, &[]));
+    assert_eq!(asked(SCRATCH, 0, [0, 0, 0]), reply(0, &[1]));
+    assert_eq!(asked(SCRATCH, 1, [0, 0, 0]), reply(0, &[0]));
+    // With no concrete class at all, a function without arguments still has its one tuple.
+    parts.classes[1].concrete = false;
+    parts.function(0);
+    let bundle = parts.bytes();
+    for (function, answer) in [(0, reply(24, &[])), (1, reply(0, &[0])), (2, reply(0, &[1]))] {
+        assert_eq!(plain::rough(&bundle, &mut [7; SCRATCH], function, [0; 3]), answer);
+    }
 }
 
 #[test]

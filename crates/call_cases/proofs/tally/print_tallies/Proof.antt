@@ -8,7 +8,7 @@ abbrev Inv-loop : tie.InvT-loop
 Inv-loop tallies entry₀ t3 t4 t5 entry = Unit {0}
 
 abbrev μ-loop : tie.MeasureT-loop
-μ-loop tallies entry₀ t3 t4 t5 entry = 13 - entry
+μ-loop tallies entry₀ t3 t4 t5 entry = 14 - entry
 
 pub print-tallies-spec : {M : Type 1} → statement M
 print-tallies-spec =

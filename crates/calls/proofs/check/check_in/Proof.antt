@@ -2,7 +2,7 @@
 -- Assumes nothing.
 use borrow.Author.Needs.{needs}
 use mathlib.Core.Path.{sym, ap, _∙_}
-use Rattle.coverage.specs.Search.{coverageOf}
+use Rattle.coverage.specs.Violations.{coverageOf}
 use Rattle.calls.proofs.Verdicts.{all-covered, one-broken}
 use Rattle.calls.proofs.check.check_in.Statement.{statement}
 use Rattle.calls.proofs.check.check_in.Tie as tie

@@ -1,0 +1,4 @@
+pub mod Leading
+pub mod Narrowing
+pub mod Searching
+pub mod Trying
