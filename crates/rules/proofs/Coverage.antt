@@ -3,7 +3,7 @@
 -- Assumes nothing.
 use Prim.Native.Nat.{ℕ, _<_}
 use mathlib.Core.Path.{_≡_, refl, sym, ap}
-use mathlib.Core.Bool.{true, false, _&&_, false≢true}
+use mathlib.Core.Bool.{true, false, false≢true}
 use mathlib.Core.Logic.{_⊎_, inl, inr}
 use mathlib.Core.List.{List, [], _∷_, map, List·Memᴰ, List·Memᴰ·head, List·Memᴰ·tail, List·Memᴰ·not-nil, List·Memᴰ·append-cases, List·Memᴰ·eq-of-singleton, Memᴰ·append-left, Memᴰ·append-right, Memᴰ·cast, Memᴰ·map, Memᴰ·of-map}
 use mathlib.Core.Option.{Option, none, some}
@@ -15,7 +15,7 @@ use Rattle.rules.specs.Model.{Model, present}
 use Rattle.rules.specs.Subclass.{subclass, under}
 use Rattle.rules.specs.Lookup.{Found, found, missing, ambiguous, lookup}
 use Rattle.rules.specs.Types.{Typing, typed, breaks, typeBody}
-use Rattle.rules.specs.Coverage.{covers, declaredHold, Judgement, holds, fails, judgeFound, judge, failing, concreteClass, concreteUnder, prefixed, tuples, brokenTuple, isSome, brokenSignature, breaking, brokenMethod, coverageRefusal, bodyRefusal, bodyVerdict, tupleVerdict, coverageVerdict, verdict}
+use Rattle.rules.specs.Coverage.{covers, declaredHold, Judgement, holds, fails, judgeFound, judge, failing, concreteClass, candidateClass, concreteUnder, prefixed, tuples, brokenTuple, isSome, brokenSignature, breaking, brokenMethod, coverageRefusal, bodyRefusal, bodyVerdict, tupleVerdict, coverageVerdict, verdict}
 use Rattle.rules.proofs.Lists.{test, and-left, and-right, and-both, every-mem, every-from, keep-mem, keep-in, below-upto, first-mem, first-none, none-first, lowest-none, lowest-some, none-lowest}
 
 pub prefixed-mem : (ks : List ℕ) (ts : List (List ℕ)) {t : List ℕ} → List·Memᴰ t (prefixed ks ts)
@@ -48,15 +48,13 @@ concretes-present M vs e = every-from (λ v. ltb v (M .classes)) vs (λ v m. lt-
 pub concrete-mem : (M : Model) (c : ℕ) {k : ℕ} → List·Memᴰ k (concreteUnder M c) → (concreteClass M k ≡ true) × (subclass M k c ≡ true)
 unfolding concreteUnder
 concrete-mem M c {k} h =
-    let e = keep-mem (λ k. concreteClass M k && subclass M k c) (upto (M .classes)) h .1 in
+    let e = keep-mem (candidateClass M c) (upto (M .classes)) h .1 in
     (and-left (concreteClass M k) (subclass M k c) e, and-right (concreteClass M k) (subclass M k c) e)
 
 pub concrete-in : (M : Model) (c k : ℕ) → concreteClass M k ≡ true → subclass M k c ≡ true → List·Memᴰ k (concreteUnder M c)
-unfolding concreteUnder concreteClass
+unfolding concreteUnder
 concrete-in M c k e s =
-    keep-in (λ k. ltb k (M .classes) && M .concrete k && subclass M k c) (upto (M .classes))
-    (below-upto (M .classes) k (concrete-present M k e))
-    (and-both (ltb k (M .classes) && M .concrete k) (subclass M k c) e s)
+    keep-in (candidateClass M c) (upto (M .classes)) (below-upto (M .classes) k (concrete-present M k e)) (and-both (concreteClass M k) (subclass M k c) e s)
 
 -- The tuples of a list of classes are the lists of concrete classes under them; of no class there is the empty one alone.
 pub tuples-mem : (M : Model) (cs : List ℕ) {t : List ℕ} → List·Memᴰ t (tuples M cs) → (every (concreteClass M) t ≡ true) × (under M t cs ≡ true)

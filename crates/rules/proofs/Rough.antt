@@ -2,7 +2,7 @@
 -- Assumes nothing.
 use Prim.Native.Nat.{ℕ, _<_}
 use mathlib.Core.Path.{_≡_, refl, sym, ap, subst, _∙_}
-use mathlib.Core.Bool.{Bool, true, false, _&&_, false≢true}
+use mathlib.Core.Bool.{Bool, true, false, false≢true}
 use mathlib.Core.Logic.{_⊎_, inl, inr}
 use mathlib.Core.List.{List, [], _∷_, List·Memᴰ, List·Memᴰ·head, List·Memᴰ·tail}
 use mathlib.Core.Option.{Option, none, some}
@@ -12,7 +12,7 @@ use Rattle.rules.specs.Layout.{gives}
 use Rattle.rules.specs.Model.{Model, Wellformed, modelOf}
 use Rattle.rules.specs.Subclass.{subclass, under}
 use Rattle.rules.specs.Lookup.{Found, found, missing, ambiguous, lookup}
-use Rattle.rules.specs.Coverage.{covers, concreteClass, tuples, Below, verdict}
+use Rattle.rules.specs.Coverage.{covers, concreteClass, candidateClass, tuples, Below, verdict}
 use Rattle.rules.specs.Calls.{sendRule, used, checkCall}
 use Rattle.rules.specs.Rough.{Rough, one, mayFail, several, isMethod, isFailure, sharedMethod, someFails, roughBy, rough, hasConcrete, roughOf, roughIn, roughCall, Differing, Says, NarrowsTo, AllAlone, certain}
 use Rattle.rules.proofs.Lists.{test, and-left, and-right, and-both, every-mem, every-from, any-mem, any-from, first-mem, first-none, below-upto}
@@ -62,7 +62,7 @@ pub below-some : (M : Model) (upper : List ℕ) → every (hasConcrete M) upper 
 unfolding every under matching hasConcrete
 below-some M [] e = ([], record { concrete = refl; covered = refl })
 below-some M (c ∷ cs) e =
-    let (k, _, p) = any-mem (λ k. concreteClass M k && subclass M k c) (upto (M .classes)) (and-left (hasConcrete M c) (every (hasConcrete M) cs) e) in
+    let (k, _, p) = any-mem (candidateClass M c) (upto (M .classes)) (and-left (hasConcrete M c) (every (hasConcrete M) cs) e) in
     let (t, b) = below-some M cs (and-right (hasConcrete M c) (every (hasConcrete M) cs) e) in (
       k ∷ t,
       record {
@@ -81,7 +81,7 @@ below-concrete M upper t b = go upper t (b .concrete) (b .covered)
     go (c ∷ cs) (k ∷ ks) e q =
         let concrete = and-left (concreteClass M k) (every (concreteClass M) ks) e in
         and-both (hasConcrete M c) (every (hasConcrete M) cs)
-        (any-from (λ k. concreteClass M k && subclass M k c) (upto (M .classes)) (below-upto (M .classes) k (concrete-present M k concrete))
+        (any-from (candidateClass M c) (upto (M .classes)) (below-upto (M .classes) k (concrete-present M k concrete))
         (and-both (concreteClass M k) (subclass M k c) concrete (and-left (subclass M k c) (matching (subclass M) ks cs) q)))
         (go cs ks (and-right (concreteClass M k) (every (concreteClass M) ks) e) (and-right (subclass M k c) (matching (subclass M) ks cs) q))
 
@@ -217,6 +217,14 @@ covered-rough M w s h upper u (t, b, e) =
     let c = below-wider M w (M .sigArgs s) upper u t b in
     let (m, q) = h t (c .concrete) (c .covered) in
     false≢true (sym (found-no-failure (lookup M (M .sigFunction s) t) m (judge-holds M s t m q .byLookup)) ∙ e)
+
+-- so the answer for its own classes is another
+pub own-rough : (M : Model) → Wellformed M → (s : ℕ) → Covered M s → every (hasConcrete M) (M .sigArgs s) ≡ true
+    → rough M (M .sigFunction s) (M .sigArgs s) ≡ mayFail → ⊥
+unfolding covers
+own-rough M w s h c e =
+    covered-rough M w s h (M .sigArgs s) (under-itself M (M .sigArgs s))
+    (subst (Says M (M .sigFunction s) (M .sigArgs s)) e (rough-says M (M .sigFunction s) (M .sigArgs s) c))
 
 -- What a call that answers says: the send is one of the bundle, each upper class at a used place has a concrete class under it, and the answer is the
 -- definition's, which is true of the tuples below.

@@ -47,9 +47,13 @@ failing (fails number ms) = true
 unfoldable pub concreteClass : Model → ℕ → Bool
 concreteClass M c = ltb c (M .classes) && M .concrete c
 
+-- k is a concrete class under class c
+abbrev pub candidateClass : Model → ℕ → ℕ → Bool
+candidateClass M c k = concreteClass M k && subclass M k c
+
 -- the concrete classes under c, in number order
 unfoldable pub concreteUnder : Model → ℕ → List ℕ
-concreteUnder M c = keep (λ k. concreteClass M k && subclass M k c) (upto (M .classes))
+concreteUnder M c = keep (candidateClass M c) (upto (M .classes))
 
 -- each list with each element in front of it, the elements turning slowest
 unfoldable pub prefixed : List ℕ → List (List ℕ) → List (List ℕ)

@@ -2,7 +2,7 @@
 -- Assumes nothing.
 use Prim.Native.Nat.{ℕ}
 use mathlib.Core.Path.{_≡_}
-use mathlib.Core.Bool.{Bool, true, false, _&&_}
+use mathlib.Core.Bool.{Bool, true, false}
 use mathlib.Core.Logic.{_⊎_}
 use mathlib.Core.List.{List, List·Memᴰ}
 use mathlib.Core.Option.{Option, none, some}
@@ -12,7 +12,7 @@ use Rattle.rules.specs.Layout.{Answer, gives, require}
 use Rattle.rules.specs.Model.{Model}
 use Rattle.rules.specs.Subclass.{subclass}
 use Rattle.rules.specs.Lookup.{Found, found, missing, ambiguous, lookup}
-use Rattle.rules.specs.Coverage.{concreteClass, tuples, Below}
+use Rattle.rules.specs.Coverage.{concreteClass, candidateClass, tuples, Below}
 use Rattle.rules.specs.Calls.{withScratch, sendRule, used}
 
 -- One method, which every tuple below the upper classes finds; or some such tuple finds none or two; or each finds one, and not all of them the same.
@@ -52,7 +52,7 @@ rough M f upper = roughBy (sharedMethod M f (tuples M upper)) (someFails M f (tu
 
 -- some concrete class is under class c
 unfoldable pub hasConcrete : Model → ℕ → Bool
-hasConcrete M c = any (λ k. concreteClass M k && subclass M k c) (upto (M .classes))
+hasConcrete M c = any (candidateClass M c) (upto (M .classes))
 
 -- 24 where an upper class has no concrete class under it
 unfoldable pub roughOf : Model → ℕ → List ℕ → Answer Rough
@@ -65,7 +65,7 @@ roughIn f tuple M = require (sendRule M f tuple) 18 (roughOf M f (used M f tuple
 unfoldable pub roughCall : List ℕ → ℕ → ℕ → List ℕ → Answer Rough
 roughCall b scratch f tuple = withScratch b scratch (roughIn f tuple)
 
--- What an answer says of the tuples below the upper classes.
+-- two tuples below the upper classes find different methods
 pub record Differing (M : Model) (f : ℕ) (upper : List ℕ) : Type 0 where
   pub left : List ℕ
   pub right : List ℕ
@@ -77,6 +77,7 @@ pub record Differing (M : Model) (f : ℕ) (upper : List ℕ) : Type 0 where
   pub rightFound : lookup M f right ≡ found rightMethod
   pub apart : leftMethod ≡ rightMethod → ⊥
 
+-- What an answer says of the tuples below.
 abbrev pub Says : Model → ℕ → List ℕ → Rough → Type 0
 Says M f upper (one m) = (t : List ℕ) → Below M upper t → lookup M f t ≡ found m
 Says M f upper mayFail = (t : List ℕ) × Below M upper t × (isFailure (lookup M f t) ≡ true)

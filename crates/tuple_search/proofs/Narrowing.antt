@@ -16,7 +16,7 @@ use Rattle.rules.specs.Layout.{places, maxMethods}
 use Rattle.rules.specs.Model.{Model, Wellformed, modelOf, present}
 use Rattle.rules.specs.Subclass.{subclass, under}
 use Rattle.rules.specs.Lookup.{left}
-use Rattle.rules.specs.Coverage.{concreteClass, Below}
+use Rattle.rules.specs.Coverage.{concreteClass, candidateClass, Below}
 use Rattle.rules.proofs.Lists.{every-mem, every-from, matching-length}
 use Rattle.rules.proofs.Lookup.{left-none, left-more}
 use Rattle.rules.proofs.Coverage.{concretes-present}
@@ -28,7 +28,7 @@ use Rattle.method_sets.specs.Sets.{inSet, rowAt, methodAt, classOf, Ordered, Ta
 use Rattle.tuple_search.specs.declared.question.Question.{Question}
 use Rattle.tuple_search.specs.declared.question.Question.the-variants.{Rule, Finds, FindsOnly}
 use Rattle.tuple_search.specs.Questions.{About, functionOf}
-use Rattle.tuple_search.specs.Search.{candidateClass, Filling}
+use Rattle.tuple_search.specs.Search.{Filling}
 
 module _ (M : Model) where
   -- a class is a candidate by whether it is concrete, then by whether it is under the upper class

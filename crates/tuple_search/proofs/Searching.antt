@@ -12,11 +12,11 @@ use lib.ListN.{length, getD, take, drop, set, length-set}
 use lib.Seq.{drop-cons, drop-length, take-set-le}
 use Rattle.rules.specs.Bounded.{upto, keep, first}
 use Rattle.rules.specs.Model.{Model}
-use Rattle.rules.specs.Coverage.{concreteUnder, prefixed, tuples}
+use Rattle.rules.specs.Coverage.{candidateClass, concreteUnder, prefixed, tuples}
 use Rattle.rules.proofs.Lists.{test, keep-hit, keep-miss, first-hit, first-miss, first-append-none, first-append-some, length-upto, getD-upto}
 use Rattle.tuple_search.specs.declared.question.Question.{Question}
 use Rattle.tuple_search.specs.Questions.{stopsAt}
-use Rattle.tuple_search.specs.Search.{candidateClass, stopIn, Ends}
+use Rattle.tuple_search.specs.Search.{stopIn, Ends}
 
 first-map : {A B : Type 0} (p : B → Bool) (f : A → B) (xs : List A) → first p (map f xs) ≡ Option·map f (first (λ x. p (f x)) xs)
 unfolding first

@@ -2,22 +2,17 @@
 -- Assumes nothing.
 use Prim.Native.Nat.{ℕ, _≤_, _<_}
 use mathlib.Core.Path.{_≡_}
-use mathlib.Core.Bool.{Bool, true, false, _&&_}
+use mathlib.Core.Bool.{Bool, true, false}
 use mathlib.Core.List.{List, _++_}
 use mathlib.Core.Option.{Option, none, some}
 use lib.ListN.{length, take}
 use Rattle.rules.specs.Bounded.{first}
 use Rattle.rules.specs.Model.{Model, present}
-use Rattle.rules.specs.Subclass.{subclass}
 use Rattle.rules.specs.Lookup.{left}
-use Rattle.rules.specs.Coverage.{concreteClass, tuples}
+use Rattle.rules.specs.Coverage.{tuples}
 use Rattle.method_sets.specs.Sets.{inSet, methodAt, Ordered, Tabled}
 use Rattle.tuple_search.specs.declared.question.Question.{Question}
 use Rattle.tuple_search.specs.Questions.{About, functionOf, stopsAt, byDeclared}
-
--- k is a class to try at a place where the upper class is c
-abbrev pub candidateClass : Model → ℕ → ℕ → Bool
-candidateClass M c k = concreteClass M k && subclass M k c
 
 -- the first of the tuples below the classes `rest` that complete the filled places to one at which the search stops
 unfoldable pub stopIn : Model → Question → List ℕ → List ℕ → Option (List ℕ)

@@ -24,11 +24,12 @@ ghost use mathlib.Core.List.{[]};
 ghost use Prim.Native.Nat.{_<_};
 ghost use lib.ListN.{length, take, drop};
 ghost use Rattle.rules.specs.Model.{modelOf};
+ghost use Rattle.rules.specs.Coverage.{candidateClass};
 ghost use Rattle.subclasses.specs.Prepared.{Prepared};
 ghost use Rattle.subclasses.specs.Places.{Arguments};
 ghost use Rattle.method_sets.specs.Sets.{LedBy, Ordered, Tabled};
 ghost use Rattle.tuple_search.specs.Questions.{About, functionOf, stopsAt};
-ghost use Rattle.tuple_search.specs.Search.{candidateClass, Tables, Filling, Ends};
+ghost use Rattle.tuple_search.specs.Search.{Tables, Filling, Ends};
 
 // Whether class k is to be tried at a place where the upper class is c: concrete, and under it.
 pub fn is_candidate(bytes: &[u8], b: Bundle, scratch: &[u8], c: usize, k: usize) -> bool

@@ -13,10 +13,9 @@ use borrow.Author.Count.{below-more}
 use Rattle.rules.specs.Bounded.{upto, first}
 use Rattle.rules.specs.Model.{Model}
 use Rattle.rules.specs.Subclass.{subclass, under}
-use Rattle.rules.specs.Coverage.{concreteClass, Below}
+use Rattle.rules.specs.Coverage.{concreteClass, candidateClass, Below}
 use Rattle.rules.specs.Rough.{hasConcrete}
 use Rattle.rules.proofs.Lists.{and-left, and-right, any-none, every-places, matching-from, none-lowest, some-lowest, lowest-none, lowest-some, upto-below}
-use Rattle.tuple_search.specs.Search.{candidateClass}
 use Rattle.upper_classes.specs.Lowest.{orElse, lowestUnder}
 
 module _ (M : Model) (c : ℕ) where

@@ -4,7 +4,7 @@ use Prim.Native.Nat.{ℕ}
 use mathlib.Core.Option.{Option, none, some}
 use Rattle.rules.specs.Bounded.{upto, first}
 use Rattle.rules.specs.Model.{Model}
-use Rattle.tuple_search.specs.Search.{candidateClass}
+use Rattle.rules.specs.Coverage.{candidateClass}
 
 -- a number, or another where there is none
 abbrev pub orElse : ℕ → Option ℕ → ℕ

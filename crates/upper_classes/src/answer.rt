@@ -68,7 +68,14 @@ fn some_stops(
 }
 
 // The answer where some tuple below finds method m: whether each finds it, and where one does not, whether each finds some method.
-fn beside(bytes: &[u8], b: Bundle, scratch: &[u8], f: usize, upper: &[u8], m: usize) -> RoughAnswer
+fn given_method(
+    bytes: &[u8],
+    b: Bundle,
+    scratch: &[u8],
+    f: usize,
+    upper: &[u8],
+    m: usize,
+) -> RoughAnswer
     requires { ⌜ Prepared (now bytes) b (now scratch) ⌝ }
     requires { ⌜ Arguments (modelOf (now bytes)) f (now upper) ⌝ }
     requires { ⌜ SomeFinds (modelOf (now bytes)) f (now upper) m ⌝ }
@@ -89,7 +96,7 @@ fn beside(bytes: &[u8], b: Bundle, scratch: &[u8], f: usize, upper: &[u8], m: us
 }
 
 // The answer for upper classes with a tuple below them.
-fn above(
+fn given_tuple(
     bytes: &[u8],
     b: Bundle,
     scratch: &[u8],
@@ -106,12 +113,12 @@ fn above(
     match lookup(bytes, b, scratch, &index, f, least) {
         Found::Missing => RoughAnswer::MayFail,
         Found::Ambiguous(_, _) => RoughAnswer::MayFail,
-        Found::Method(m) => beside(bytes, b, scratch, f, upper, m),
+        Found::Method(m) => given_method(bytes, b, scratch, f, upper, m),
     }
 }
 
 // The answer for upper classes of function f: 24, or what the tuples below them find.
-fn of_upper(bytes: &[u8], b: Bundle, scratch: &[u8], f: usize, upper: &[u8]) -> RoughAnswer
+fn given_upper(bytes: &[u8], b: Bundle, scratch: &[u8], f: usize, upper: &[u8]) -> RoughAnswer
     requires { ⌜ Prepared (now bytes) b (now scratch) ⌝ }
     requires { ⌜ Arguments (modelOf (now bytes)) f (now upper) ⌝ }
     ensures { λ r. ⌜ roughSaid r ≡ roughOf (modelOf (now (bytes .entry))) f (now (upper .entry)) ⌝ }
@@ -121,7 +128,7 @@ fn of_upper(bytes: &[u8], b: Bundle, scratch: &[u8], f: usize, upper: &[u8]) -> 
     if !least_below(bytes, b, scratch, upper, &mut least[..n]) {
         return RoughAnswer::NoConcrete;
     }
-    above(bytes, b, scratch, f, upper, &least[..n])
+    given_tuple(bytes, b, scratch, f, upper, &least[..n])
 }
 
 // What a send finds whose tuple holds an upper class for each argument, abstract ones too.
@@ -135,5 +142,5 @@ pub fn rough_in(bundle: &[u8], b: Bundle, scratch: &[u8], send: Send) -> RoughAn
     }
     let n = args.count;
     let classes = args.classes;
-    of_upper(bundle, b, scratch, send.function, &classes[..n])
+    given_upper(bundle, b, scratch, send.function, &classes[..n])
 }

@@ -9,7 +9,6 @@ use borrow.Author.Needs.{needs}
 use Rattle.rules.specs.Model.{modelOf}
 use Rattle.rules.specs.Coverage.{brokenTuple, isSome}
 use Rattle.layout.proofs.Opened.{wellformed-of, counts-of}
-use Rattle.tuple_search.specs.Search.{Tables}
 use Rattle.coverage.specs.Violations.{coverageOf}
 use Rattle.coverage.proofs.Violations.{signature-holds, signature-implied, signature-breaks, signatures-hold}
 use Rattle.coverage.proofs.signature.broken_signature.Statement.{statement}
@@ -52,10 +51,13 @@ returns-2 c =
 broken-tuple-requires : tie.Need-broken-tuple-requires Inv-loop μ-loop
 broken-tuple-requires c κs =
     let l = c .before .before .before .before .before .before in
-    let o = l .before .before .before .before .before .before .before .order-methods in
-    let tables : Tables _ _ _ _ _ =
-    record { ordered = o .ensures; admitting = l .before .before .before .before .fill-table .ensures; holding = l .before .fill-table2 .ensures } in
-    (l .before .before .before .before .before .before .before .before .before .before .pre, (omega (arith, l .loop .inv .0), tables))
+    let o = l .before .before .before .before .before .before .before .order-methods in (
+      l .before .before .before .before .before .before .before .before .before .before .pre,
+      (
+        omega (arith, l .loop .inv .0),
+        record { ordered = o .ensures; admitting = l .before .before .before .before .fill-table .ensures; holding = l .before .fill-table2 .ensures },
+      ),
+    )
 
 pub broken-signature-spec : {M : Type 1} → statement M
 broken-signature-spec =

@@ -13,11 +13,12 @@ use borrow.Fn.PlainCycle.{Measures, is, falls, and}
 use Rattle.rules.specs.Bytes.{byte}
 use Rattle.rules.specs.Layout.{places, maxClasses}
 use Rattle.rules.specs.Model.{Model, modelOf}
+use Rattle.rules.specs.Coverage.{candidateClass}
 use Rattle.rules.proofs.Lists.{getD-mem}
 use Rattle.layout.proofs.Opened.{placed-of, counts-of, wellformed-of}
 use Rattle.subclasses.proofs.Asked.{class-below}
 use Rattle.tuple_search.specs.declared.question.Question.{Question}
-use Rattle.tuple_search.specs.Search.{candidateClass, stopIn, Ends}
+use Rattle.tuple_search.specs.Search.{stopIn, Ends}
 use Rattle.tuple_search.proofs.Leading.{led-part}
 use Rattle.tuple_search.proofs.Narrowing.{chosen-more, filling-places, filling-kept, filling-more}
 use Rattle.tuple_search.proofs.Searching.{remaining, filled-ends, search-opens, search-ends, no-place, restored-kept, class-skipped, class-passed, class-stops, passed-through}

@@ -11,8 +11,8 @@ use Rattle.upper_classes.proofs.answer.rough_in.Tie as tie
 array-share-prefix-classes : tie.Need-array-share-prefix-classes
 array-share-prefix-classes c = let e = c .before in e .before .before .classes-of .ensures .1 .0 (not-false _ (e .if1 .left)) .within
 
-of-upper-requires : tie.Need-of-upper-requires
-of-upper-requires c κs =
+given-upper-requires : tie.Need-given-upper-requires
+given-upper-requires c κs =
     let e = c .before .before in
     let r = e .before .before in
     (r .before .before .before .pre, r .classes-of .ensures .1 .0 (not-false _ (e .if1 .left)) .arguments)
@@ -22,7 +22,7 @@ returns-2 c =
     let e = c .before .before .before in
     let r = e .before .before in
     let sent = not-false _ (e .if1 .left) in
-    c .of-upper .ensures ∙ rough-sent _ _ _ (sym (r .classes-of .ensures .0) ∙ sent) (r .classes-of .ensures .1 .0 sent)
+    c .given-upper .ensures ∙ rough-sent _ _ _ (sym (r .classes-of .ensures .0) ∙ sent) (r .classes-of .ensures .1 .0 sent)
 
 pub rough-in-spec : {M : Type 1} → statement M
 rough-in-spec =
@@ -32,5 +32,5 @@ rough-in-spec =
     (λ c. rough-absent _ _ _ (sym (c .before .before .classes-of .ensures .0) ∙ not-true _ (c .if1 .taken)))
     array-share-prefix-classes
     (λ c. sym (length-take-le _ _ (array-share-prefix-classes (c .before))))
-    of-upper-requires
+    given-upper-requires
     returns-2)

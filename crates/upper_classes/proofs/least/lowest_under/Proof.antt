@@ -6,8 +6,8 @@ use mathlib.Core.Path.{_≡_, sym, _∙_}
 use mathlib.Core.Bool.{false}
 use borrow.Author.Count.{below-none, below-more}
 use Rattle.rules.specs.Model.{modelOf}
+use Rattle.rules.specs.Coverage.{candidateClass}
 use Rattle.layout.proofs.Opened.{counts-of}
-use Rattle.tuple_search.specs.Search.{candidateClass}
 use Rattle.upper_classes.proofs.Lowest.{lowest-found, lowest-missing}
 use Rattle.upper_classes.proofs.least.lowest_under.Statement.{statement}
 use Rattle.upper_classes.proofs.least.lowest_under.Tie as tie

@@ -1,4 +1,4 @@
--- `upper_classes::answer::above` meets its contract: a first tuple that finds none or two settles it, and one that finds a method leaves the searches.
+-- `upper_classes::answer::given_tuple` meets its contract: a first tuple that finds none or two settles it, and one that finds a method leaves the searches.
 -- Assumes nothing.
 use mathlib.Core.Path.{sym, ap, _∙_}
 use borrow.Author.Needs.{needs}
@@ -6,17 +6,17 @@ use Rattle.rules.specs.Rough.{isFailure}
 use Rattle.dispatch.specs.Found.{foundOf}
 use Rattle.tuple_search.proofs.Narrowing.{below-arguments}
 use Rattle.upper_classes.proofs.Answers.{fails-answer}
-use Rattle.upper_classes.proofs.answer.above.Statement.{statement}
-use Rattle.upper_classes.proofs.answer.above.Tie as tie
+use Rattle.upper_classes.proofs.answer.given_tuple.Statement.{statement}
+use Rattle.upper_classes.proofs.answer.given_tuple.Tie as tie
 
 lookup-requires : tie.Need-lookup-requires
 lookup-requires c κs =
     let p = c .before .before .before .before .before .before .pre in
     (p .0, (c .before .index-methods .ensures, below-arguments (p .1 .0) (p .1 .1)))
 
-beside-requires : tie.Need-beside-requires
+given-method-requires : tie.Need-given-method-requires
 unfolding foundOf
-beside-requires c κs =
+given-method-requires c κs =
     let u = c .before .before .before in
     let p = u .before .before .before .before .before .before .before .pre in
     (p .0, (p .1 .0, record { tuple = _; below = p .1 .1; finds = sym (u .lookup .ensures) ∙ ap foundOf (c .before .m .given .1) }))
@@ -35,8 +35,8 @@ returns-2 c =
     let p = u .before .before .before .before .before .before .before .pre in
     fails-answer _ _ _ _ (p .1 .1) (ap isFailure (sym (u .lookup .ensures) ∙ ap foundOf (c .enum-told2 .given .1)))
 
-pub above-spec : {M : Type 1} → statement M
-above-spec =
+pub given-tuple-spec : {M : Type 1} → statement M
+given-tuple-spec =
     tie.close
     (tie.spec
     (λ c κs. search needs)
@@ -45,7 +45,7 @@ above-spec =
     (λ c. search needs)
     (λ c. search needs)
     (λ c. search needs)
-    beside-requires
+    given-method-requires
     returns
     returns-2
     (λ c. search needs))

@@ -1,4 +1,4 @@
--- `upper_classes::answer::of_upper` meets its contract: 24 where a place has no class to write, and else the answer for the tuple written.
+-- `upper_classes::answer::given_upper` meets its contract: 24 where a place has no class to write, and else the answer for the tuple written.
 -- Assumes nothing.
 use Prim.Native.Nat.{_≤_}
 use native.Mathlib.Omega.{arith}
@@ -12,8 +12,8 @@ use Rattle.rules.specs.Model.{modelOf}
 use Rattle.rules.specs.Coverage.{Below}
 use Rattle.subclasses.proofs.Asked.{arguments-places}
 use Rattle.upper_classes.proofs.Answers.{upper-abstract, upper-answered}
-use Rattle.upper_classes.proofs.answer.of_upper.Statement.{statement}
-use Rattle.upper_classes.proofs.answer.of_upper.Tie as tie
+use Rattle.upper_classes.proofs.answer.given_upper.Statement.{statement}
+use Rattle.upper_classes.proofs.answer.given_upper.Tie as tie
 
 -- there are no more upper classes than the layout has places
 few : (c : tie.Start) → length (c .args .upper .now) ≤ places
@@ -37,8 +37,8 @@ array-share-prefix-least c =
     let n = length (u .before .before .before .before .before .args .upper .now) in
     omega (arith, length-append (u .least-below .last .1 .1 .1 .1 .0) (drop n (0 ∷ 0 ∷ 0 ∷ [])), long u)
 
-above-requires : tie.Need-above-requires
-above-requires c κs =
+given-tuple-requires : tie.Need-given-tuple-requires
+given-tuple-requires c κs =
     let e = c .before in
     let u = e .before .before in
     let s = u .before .before .before .before .before in
@@ -48,10 +48,10 @@ above-requires c κs =
 returns-2 : tie.Need-returns-2
 returns-2 c =
     let e = c .before .before in
-    c .above .ensures ∙ upper-answered _ _ _ (sym (e .before .before .least-below .ensures .1 .0) ∙ not-false _ (e .if1 .left))
+    c .given-tuple .ensures ∙ upper-answered _ _ _ (sym (e .before .before .least-below .ensures .1 .0) ∙ not-false _ (e .if1 .left))
 
-pub of-upper-spec : {M : Type 1} → statement M
-of-upper-spec =
+pub given-upper-spec : {M : Type 1} → statement M
+given-upper-spec =
     tie.close
     (tie.spec
     (λ c. few (c .before .before .before))
@@ -60,5 +60,5 @@ of-upper-spec =
     returns
     array-share-prefix-least
     (λ c. sym (length-take-le _ _ (array-share-prefix-least (c .before))))
-    above-requires
+    given-tuple-requires
     returns-2)

@@ -1,11 +1,11 @@
--- `upper_classes::answer::beside` meets its contract: no tuple finds another method than m; some tuple finds none or two; or neither.
+-- `upper_classes::answer::given_method` meets its contract: no tuple finds another method than m; some tuple finds none or two; or neither.
 -- Assumes nothing.
 use mathlib.Core.Path.{sym, _∙_}
 use borrow.Author.Needs.{needs}
 use borrow.Author.Tests.{not-true, not-false}
 use Rattle.upper_classes.proofs.Answers.{one-answer, fail-answer, several-answer}
-use Rattle.upper_classes.proofs.answer.beside.Statement.{statement}
-use Rattle.upper_classes.proofs.answer.beside.Tie as tie
+use Rattle.upper_classes.proofs.answer.given_method.Statement.{statement}
+use Rattle.upper_classes.proofs.answer.given_method.Tie as tie
 
 some-stops-requires : tie.Need-some-stops-requires
 some-stops-requires c κs =
@@ -40,8 +40,8 @@ returns-3 c =
     let p = e .before .before .before .before .before .before .before .before .before .before .before .pre in
     several-answer _ _ _ _ (p .1 .1) (sym (e .before .some-stops .ensures) ∙ not-false _ (e .if1 .left)) (sym (u .some-stops2 .ensures) ∙ c .if2 .left)
 
-pub beside-spec : {M : Type 1} → statement M
-beside-spec =
+pub given-method-spec : {M : Type 1} → statement M
+given-method-spec =
     tie.close
     (tie.spec
     (λ c κs. search needs)
