@@ -66,6 +66,15 @@ module _ {A : Type 0} where
   every-from p (y ∷ ys) h =
       and-both (p y) (every p ys) (h y (List·Memᴰ·head refl)) (every-from p ys (λ x m. h x (List·Memᴰ·tail m)))
 
+  pub every-fails : (p : A → Bool) (xs : List A) → every p xs ≡ false → (x : A) × List·Memᴰ x xs × (p x ≡ false)
+  unfolding every
+  every-fails p [] e = absurd (false≢true (sym e))
+  every-fails p (y ∷ ys) e = go (test (p y)) (λ q. every-fails p ys q)
+    where
+      go : (p y ≡ true) ⊎ (p y ≡ false) → (every p ys ≡ false → (x : A) × List·Memᴰ x ys × (p x ≡ false)) → (x : A) × List·Memᴰ x (y ∷ ys) × (p x ≡ false)
+      go (inl h) rest = let (x, m, q) = rest (rw h at e) in (x, List·Memᴰ·tail m, q)
+      go (inr h) rest = (y, List·Memᴰ·head refl, h)
+
   pub getD-mem : (xs : List A) (i : ℕ) (d : A) → i < length xs → List·Memᴰ (getD xs i d) xs
   getD-mem [] i d h = absurd (not-suc-le-zero h)
   getD-mem (x ∷ xs) zero d h = List·Memᴰ·head refl
@@ -96,6 +105,13 @@ module _ {A : Type 0} where
   any-none p [] h = refl
   any-none p (y ∷ ys) h =
       or-none (p y) (any p ys) (h y (List·Memᴰ·head refl)) (any-none p ys (λ x m. h x (List·Memᴰ·tail m)))
+
+  pub any-fails : (p : A → Bool) (xs : List A) → any p xs ≡ false → {x : A} → List·Memᴰ x xs → p x ≡ false
+  any-fails p xs e {x} m = go (test (p x))
+    where
+      go : (p x ≡ true) ⊎ (p x ≡ false) → p x ≡ false
+      go (inl h) = absurd (false≢true (sym e ∙ any-from p xs m h))
+      go (inr h) = h
 
   pub keep-hit : (p : A → Bool) (y : A) (ys : List A) → p y ≡ true → keep p (y ∷ ys) ≡ y ∷ keep p ys
   unfolding keep

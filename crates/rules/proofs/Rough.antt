@@ -15,22 +15,12 @@ use Rattle.rules.specs.Lookup.{Found, found, missing, ambiguous, lookup}
 use Rattle.rules.specs.Coverage.{covers, concreteClass, candidateClass, tuples, Below, verdict}
 use Rattle.rules.specs.Calls.{sendRule, used, checkCall}
 use Rattle.rules.specs.Rough.{Rough, one, mayFail, several, isMethod, isFailure, sharedMethod, someFails, roughBy, rough, hasConcrete, roughOf, roughIn, roughCall, Differing, Says, NarrowsTo, AllAlone, certain}
-use Rattle.rules.proofs.Lists.{test, and-left, and-right, and-both, every-mem, every-from, any-mem, any-from, first-mem, first-none, below-upto}
+use Rattle.rules.proofs.Lists.{and-left, and-right, and-both, every-mem, every-from, every-fails, any-mem, any-from, any-fails, first-mem, first-none, below-upto}
 use Rattle.rules.proofs.Subclass.{under-trans, under-itself}
 use Rattle.rules.proofs.Opening.{require-passed}
 use Rattle.rules.proofs.Lookup.{lookup-leader}
 use Rattle.rules.proofs.Coverage.{concrete-present, concretes-present, tuples-mem, tuples-in, judge-holds, Covered, accepted-acceptable}
 use Rattle.rules.proofs.Calls.{called-gives}
-
--- a list of which not all pass a test has one that does not
-every-fails : {A : Type 0} (p : A → Bool) (xs : List A) → every p xs ≡ false → (x : A) × List·Memᴰ x xs × (p x ≡ false)
-unfolding every
-every-fails p [] e = absurd (false≢true (sym e))
-every-fails p (x ∷ xs) e = go (test (p x)) (λ q. every-fails p xs q)
-  where
-    go : (p x ≡ true) ⊎ (p x ≡ false) → (every p xs ≡ false → (y : _) × List·Memᴰ y xs × (p y ≡ false)) → (y : _) × List·Memᴰ y (x ∷ xs) × (p y ≡ false)
-    go (inl h) rest = let (y, m, q) = rest (rw h at e) in (y, List·Memᴰ·tail m, q)
-    go (inr h) rest = (x, List·Memᴰ·head refl, h)
 
 -- what the tests say of what is found
 pub is-method : (m : ℕ) (r : Found) → isMethod m r ≡ true → r ≡ found m
@@ -106,11 +96,7 @@ module _ (M : Model) (f : ℕ) (upper : List ℕ) where
 
   none-fails : someFails M f (tuples M upper) ≡ false → (t : List ℕ) → Below M upper t → isFailure (lookup M f t) ≡ false
   unfolding someFails
-  none-fails e t b = go (test (isFailure (lookup M f t)))
-    where
-      go : (isFailure (lookup M f t) ≡ true) ⊎ (isFailure (lookup M f t) ≡ false) → isFailure (lookup M f t) ≡ false
-      go (inl h) = absurd (false≢true (sym e ∙ any-from (λ t. isFailure (lookup M f t)) (tuples M upper) (below-listed M upper t b) h))
-      go (inr h) = h
+  none-fails e t b = any-fails (λ t. isFailure (lookup M f t)) (tuples M upper) e (below-listed M upper t b)
 
   -- with a tuple below, and no method that all find, two tuples find different methods
   differing : (t : List ℕ) → Below M upper t → someFails M f (tuples M upper) ≡ false → sharedMethod M f (tuples M upper) ≡ none → Differing M f upper

@@ -15,7 +15,7 @@ use Rattle.rules.specs.Lookup.{lookup}
 use Rattle.rules.specs.Coverage.{tuples, Below}
 use Rattle.rules.specs.Calls.{sendRule}
 use Rattle.rules.specs.Rough.{Rough, one, mayFail, several, isMethod, isFailure, rough, hasConcrete, roughOf, roughIn, Says}
-use Rattle.rules.proofs.Lists.{test, any-mem, any-from, any-none, first-mem, first-none}
+use Rattle.rules.proofs.Lists.{test, any-mem, any-from, any-none, any-fails, first-mem, first-none}
 use Rattle.rules.proofs.Rough.{is-method, no-failure, below-listed, listed-below, below-concrete, says-rough, calls-narrow}
 use Rattle.sends.specs.Send.{Passes}
 use Rattle.tuple_search.specs.declared.question.Question.{Question}
@@ -41,11 +41,7 @@ stops-any M q upper old new r w = go (test r)
 module _ (M : Model) (f : ℕ) (upper : List ℕ) where
   -- where no tuple stops a search, all pass
   none-stops : (q : Question) → any (stopsAt M q) (tuples M upper) ≡ false → (t : List ℕ) → Below M upper t → stopsAt M q t ≡ false
-  none-stops q e t b = go (test (stopsAt M q t))
-    where
-      go : (stopsAt M q t ≡ true) ⊎ (stopsAt M q t ≡ false) → stopsAt M q t ≡ false
-      go (inl h) = absurd (false≢true (sym e ∙ any-from (stopsAt M q) (tuples M upper) (below-listed M upper t b) h))
-      go (inr h) = h
+  none-stops q e t b = any-fails (stopsAt M q) (tuples M upper) e (below-listed M upper t b)
 
   -- an answer that is true is the answer, where there is a tuple
   answer : (t : List ℕ) → Below M upper t → (r : Rough) → Says M f upper r → _≡_ {A = _} (gives r) (gives (rough M f upper))
@@ -54,14 +50,14 @@ module _ (M : Model) (f : ℕ) (upper : List ℕ) where
   pub fails-answer : (t : List ℕ) → Below M upper t → isFailure (lookup M f t) ≡ true → gives mayFail ≡ gives (rough M f upper)
   fails-answer t b e = answer t b mayFail (t, b, e)
 
+  pub some-fails-answer : any (stopsAt M (Finds f)) (tuples M upper) ≡ true → gives mayFail ≡ gives (rough M f upper)
+  unfolding stopsAt
+  some-fails-answer e = let (t, n, h) = any-mem (stopsAt M (Finds f)) (tuples M upper) e in fails-answer t (listed-below M upper n) h
+
   module _ (m : ℕ) (s : SomeFinds M f upper m) where
     pub one-answer : any (stopsAt M (FindsOnly f m)) (tuples M upper) ≡ false → gives (one m) ≡ gives (rough M f upper)
     unfolding stopsAt
     one-answer e = answer (s .tuple) (s .below) (one m) (λ t b. is-method m (lookup M f t) (not-false _ (none-stops (FindsOnly f m) e t b)))
-
-    pub fail-answer : any (stopsAt M (Finds f)) (tuples M upper) ≡ true → gives mayFail ≡ gives (rough M f upper)
-    unfolding stopsAt
-    fail-answer e = let (t, n, h) = any-mem (stopsAt M (Finds f)) (tuples M upper) e in fails-answer t (listed-below M upper n) h
 
     pub several-answer : any (stopsAt M (FindsOnly f m)) (tuples M upper) ≡ true → any (stopsAt M (Finds f)) (tuples M upper) ≡ false
         → gives several ≡ gives (rough M f upper)

@@ -3,7 +3,7 @@
 use mathlib.Core.Path.{sym, _∙_}
 use borrow.Author.Needs.{needs}
 use borrow.Author.Tests.{not-true, not-false}
-use Rattle.upper_classes.proofs.Answers.{one-answer, fail-answer, several-answer}
+use Rattle.upper_classes.proofs.Answers.{one-answer, some-fails-answer, several-answer}
 use Rattle.upper_classes.proofs.answer.given_method.Statement.{statement}
 use Rattle.upper_classes.proofs.answer.given_method.Tie as tie
 
@@ -28,10 +28,7 @@ some-stops-requires-2 c κs =
     (p .0, (record { ordered = t .before .before .before .order-methods .ensures; admitting = t .fill-table .ensures; holding = t .fill-table .ensures }, (args .function, args)))
 
 returns-2 : tie.Need-returns-2
-returns-2 c =
-    let u = c .before in
-    let p = u .before .before .before .before .before .before .before .before .before .before .before .before .before .before .pre in
-    fail-answer _ _ _ _ (p .1 .1) (sym (u .some-stops2 .ensures) ∙ c .if2 .taken)
+returns-2 c = some-fails-answer _ _ _ (sym (c .before .some-stops2 .ensures) ∙ c .if2 .taken)
 
 returns-3 : tie.Need-returns-3
 returns-3 c =
