@@ -12,7 +12,8 @@ use Rattle.rules.specs.Layout.{gives, require}
 use Rattle.rules.specs.Model.{Model, modelOf}
 use Rattle.rules.specs.Coverage.{covers, concreteClass}
 use Rattle.rules.specs.Machine as rules
-use Rattle.rules.specs.Calls.{scratchBytes, sendRule, used, runIn, checkCall, runCall, scratchAfter}
+use Rattle.rules.specs.Calls.{sendRule, used, runIn, checkCall, runCall, scratchAfter}
+use Rattle.rules.specs.Scratch.{scratchBytes}
 use Rattle.rules.specs.Sound.{Covering, SoundEnding}
 use Rattle.rules.proofs.Lists.{and-left, and-right, and-both, any-mem, any-from, upto-below, below-upto}
 use Rattle.bundle_rules.specs.Opening.{Opens, said, saidOf}

@@ -9,7 +9,8 @@ use borrow.Author.Tests.{lt-ltb, le-ltb, le-leb, lt-leb}
 use Rattle.rules.specs.Layout.{Answer, gives, refuses, opening, require, codeOf}
 use Rattle.rules.specs.Model.{Model, modelOf}
 use Rattle.rules.specs.Types.{Static}
-use Rattle.rules.specs.Calls.{scratchBytes, onOpening, whenOpen, withScratch, bodyViewCall, overwrite, matrixByte, scratchOn, scratchAfter, rowOn}
+use Rattle.rules.specs.Calls.{onOpening, whenOpen, withScratch, bodyViewCall, overwrite, scratchOn, scratchAfter, rowOn}
+use Rattle.rules.specs.Scratch.{matrixByte, scratchBytes}
 use Rattle.rules.specs.Chart.{lineOn}
 use Rattle.bundle_rules.specs.declared.finding.LayoutFinding.{LayoutFinding}
 use Rattle.bundle_rules.specs.declared.finding.LayoutFinding.the-variants as finding

@@ -10,7 +10,8 @@ use Rattle.rules.specs.Layout.{Answer, gives, refuses, opening, require}
 use Rattle.rules.specs.Model.{Model, modelOf}
 use Rattle.rules.specs.Coverage.{verdict}
 use Rattle.rules.specs.Machine.{run}
-use Rattle.rules.specs.Calls.{scratchBytes, onOpening, whenOpen, withScratch, used, runIn, checkCall, runCall, overwrite, matrixByte, scratchOn, scratchAfter}
+use Rattle.rules.specs.Calls.{onOpening, whenOpen, withScratch, used, runIn, checkCall, runCall, overwrite, scratchOn, scratchAfter}
+use Rattle.rules.specs.Scratch.{matrixByte, scratchBytes}
 use Rattle.rules.proofs.Sound.{demand-3}
 use Rattle.rules.proofs.Overwrite.{overwrite-length, overwrite-twice}
 use borrow.Author.Tests.{leb-true, le-leb}

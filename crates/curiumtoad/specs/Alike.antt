@@ -9,7 +9,8 @@ use Rattle.rules.specs.Layout.{Answer, gives}
 use Rattle.rules.specs.Model.{Model, modelOf}
 use Rattle.rules.specs.Coverage.{concreteClass}
 use Rattle.rules.specs.Machine.{Outcome, run}
-use Rattle.rules.specs.Calls.{scratchBytes, sendRule, used, checkCall, runCall}
+use Rattle.rules.specs.Calls.{sendRule, used, checkCall, runCall}
+use Rattle.rules.specs.Scratch.{scratchBytes}
 use Rattle.rules.specs.Sound.{Covering, SoundRun}
 use Rattle.calls.specs.declared.check.Verdict as verdict-type
 use Rattle.calls.specs.declared.run.RunAnswer as run-type

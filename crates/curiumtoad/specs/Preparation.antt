@@ -5,7 +5,7 @@ use mathlib.Core.Path.{_≡_}
 use mathlib.Core.List.{List}
 use lib.ListN.{length}
 use Rattle.rules.specs.Layout.{gives, opening}
-use Rattle.rules.specs.Calls.{scratchBytes}
+use Rattle.rules.specs.Scratch.{scratchBytes}
 use Rattle.layout.specs.Opened as layout-opened
 use Rattle.bundle_rules.specs.Opening.{saidOf}
 use Rattle.calls.specs.declared.refusal.Refusal as refusal-type

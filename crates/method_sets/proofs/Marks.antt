@@ -8,7 +8,7 @@ use mathlib.Core.Bool.{Bool}
 use mathlib.Core.List.{List}
 use lib.ListN.{length, getD, set, length-set}
 use lib.Seq.{getD-set-same, getD-set-other}
-use Rattle.rules.specs.Calls.{bit}
+use Rattle.rules.specs.Bits.{bit}
 use Rattle.method_sets.specs.Sets.{Marked}
 
 -- what holds of the first n elements, and of one that is stored after them, holds of the first n + 1

@@ -12,15 +12,16 @@ use borrow.Author.Count.{below-more}
 use Rattle.rules.specs.Layout.{maxMethods}
 use Rattle.rules.specs.Model.{modelOf}
 use Rattle.rules.specs.Subclass.{subclass}
+use Rattle.rules.specs.Scratch.{entryAt}
+use Rattle.rules.specs.Bits.{inSet}
+use Rattle.rules.proofs.Bits.{bit-test}
 use Rattle.layout.specs.Opened.{Opened}
 use Rattle.layout.specs.declared.bundle.Bundle.{Bundle}
 use Rattle.layout.proofs.Opened.{counts-of, placed-of}
-use Rattle.subclasses.specs.Matrix.{entryAt}
 use Rattle.subclasses.specs.Places.{InMatrix}
 use Rattle.subclasses.specs.Prepared.{Prepared}
 use Rattle.subclasses.proofs.Asked.{answered}
-use Rattle.subclasses.proofs.Entry.{bit-test}
-use Rattle.method_sets.specs.Sets.{setWords, inSet, rowAt, classOf, methodAt, Marked, Packed, Column, Rows, TabledTo}
+use Rattle.method_sets.specs.Sets.{setWords, rowAt, classOf, methodAt, Marked, Packed, Column, Rows, TabledTo}
 
 -- where the first n words stay, so do the sets among them
 set-kept : (old new : List ℕ) {n : ℕ} → ((j : ℕ) → j < n → getD new j 0 ≡ getD old j 0) → (at i : ℕ) → at + setWords ≤ n → i < maxMethods

@@ -1,6 +1,6 @@
 -- Sets of methods as words of bits, by the positions of the methods in an order, and tables of such sets.
 -- Assumes nothing.
-use Prim.Native.Nat.{ℕ, _+_, _*_, _<_, _/_, _%_, _^_}
+use Prim.Native.Nat.{ℕ, _+_, _*_, _<_, _%_}
 use mathlib.Core.Path.{_≡_}
 use mathlib.Core.Bool.{Bool, true, false}
 use mathlib.Core.List.{List}
@@ -9,8 +9,8 @@ use lib.ListN.{length, getD}
 use Rattle.rules.specs.Layout.{places, maxMethods}
 use Rattle.rules.specs.Model.{Model}
 use Rattle.rules.specs.Subclass.{subclass}
-use Rattle.rules.specs.Calls.{bit}
-use Rattle.subclasses.specs.Matrix.{entryAt}
+use Rattle.rules.specs.Bits.{bit, inSet}
+use Rattle.rules.specs.Scratch.{entryAt}
 
 -- the words of a set, and of a table of sets
 abbrev pub setWords : ℕ
@@ -18,14 +18,6 @@ setWords = 8
 
 abbrev pub tableWords : ℕ
 tableWords = 3072
-
--- bit i of a word, the lowest being bit 0
-unfoldable pub bitAt : ℕ → ℕ → Bool
-bitAt x i = eqb (x / 2 ^ i % 2) 1
-
--- position i is in the set whose words begin at a place of a list
-unfoldable pub inSet : List ℕ → ℕ → ℕ → Bool
-inSet words at i = bitAt (getD words (at + i / 64) 0) (i % 64)
 
 -- where a table has the set of a place and a class
 abbrev pub rowAt : ℕ → ℕ → ℕ

@@ -6,8 +6,8 @@ ghost use Prim.Native.Nat.{ℕ, _+_, _*_, _<_, _≤_, _^_};
 ghost use lib.Dec.{eqb};
 ghost use lib.ListN.{length, getD};
 ghost use Rattle.rules.specs.Layout.{places, maxClasses, maxMethods};
-ghost use Rattle.rules.specs.Calls.{bit};
-ghost use Rattle.method_sets.specs.Sets.{setWords, tableWords, bitAt, inSet, rowAt, Packed, Within, SameWithin};
+ghost use Rattle.rules.specs.Bits.{bit, bitAt, inSet};
+ghost use Rattle.method_sets.specs.Sets.{setWords, tableWords, rowAt, Packed, Within, SameWithin};
 
 const WORD_BITS: usize = 64;
 

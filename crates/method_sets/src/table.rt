@@ -15,12 +15,12 @@ ghost use lib.Dec.{eqb};
 ghost use lib.ListN.{length, getD};
 ghost use Rattle.rules.specs.Layout.{places, maxClasses, maxMethods};
 ghost use Rattle.rules.specs.Model.{modelOf};
-ghost use Rattle.rules.specs.Calls.{scratchBytes, matrixStride, bit};
+ghost use Rattle.rules.specs.Scratch.{scratchBytes, entryAt};
+ghost use Rattle.rules.specs.Bits.{bit, inSet};
 ghost use Rattle.layout.specs.Opened.{Opened};
 ghost use Rattle.subclasses.specs.Prepared.{Prepared};
-ghost use Rattle.subclasses.specs.Matrix.{entryAt};
 ghost use Rattle.subclasses.specs.Places.{InMatrix};
-ghost use Rattle.method_sets.specs.Sets.{classOf, methodAt, inSet, Ordered, Marked, Column, Rows, Tabled};
+ghost use Rattle.method_sets.specs.Sets.{classOf, methodAt, Ordered, Marked, Column, Rows, Tabled};
 
 // A test as a mark.
 fn mark(passes: bool) -> u8
@@ -72,7 +72,7 @@ fn column(
 // Marks the classes of a column that are above class k.
 fn mark_above(scratch: &[u8], k: usize, column: &[u8], marks: &mut [u8])
     requires { ⌜ scratchBytes ≤ length (now scratch) ⌝ }
-    requires { ⌜ k < matrixStride ⌝ }
+    requires { ⌜ k < maxClasses ⌝ }
     requires { ⌜ InMatrix (now column) ⌝ }
     requires { ⌜ length (now column) ≤ length (now marks) ⌝ }
     ensures { λ _. ⌜ Marked (λ i. entryAt (now (scratch .entry)) k (getD (now (column .entry)) i 0)) (length (now (column .entry))) (now (marks .entry)) (now (marks .exit)) ⌝ }

@@ -9,7 +9,8 @@ use mathlib.Core.List.{List, []}
 use lib.Dec.{leb}
 use Rattle.rules.specs.Layout.{Answer, gives, refuses, require, opening}
 use Rattle.rules.specs.Model.{Model, modelOf, Wellformed}
-use Rattle.rules.specs.Calls.{scratchBytes, onOpening, whenOpen, withScratch}
+use Rattle.rules.specs.Calls.{onOpening, whenOpen, withScratch}
+use Rattle.rules.specs.Scratch.{scratchBytes}
 use Rattle.rules.proofs.Opening.{opening-number}
 use Rattle.rules.proofs.Wellformed.{opened-wellformed}
 

@@ -17,6 +17,8 @@ pub mod Calls
 pub mod Named
 pub mod Sound
 pub mod Overwrite
+pub mod Bits
+pub mod Scratch
 pub mod Tuples
 pub mod Decimal
 pub mod Chart

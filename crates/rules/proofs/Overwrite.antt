@@ -4,9 +4,10 @@ use Prim.Native.Nat.{ℕ, zero, suc, _+_, _-_, _≤_, _<_}
 use native.Mathlib.Omega.{arith}
 use native.Mathlib.Numerals.{add-one}
 use mathlib.Core.Path.{_≡_, refl, sym, ap, _∙_}
-use mathlib.Core.List.{List, [], _∷_, _++_, map, List·Memᴰ, List·Memᴰ·head, List·Memᴰ·tail}
-use lib.ListN.{length, getD, drop, set, length-append, length-drop, length-map, List·getD-append}
-use lib.Seq.{drop-at, drop-cons, set-at, getD-append-add, getD-drop, append-snoc}
+use mathlib.Core.List.{List, [], _∷_, _++_, map, append-nil, List·Memᴰ, List·Memᴰ·head, List·Memᴰ·tail}
+use lib.ListN.{length, getD, take, drop, set, length-append, length-drop, length-map, drop-of-length-le, List·getD-append}
+use lib.Seq.{take-all, drop-at, drop-cons, set-at, getD-append-add, getD-drop, append-snoc}
+use borrow.Rule.Slice.PartMut.{midOf, putMid}
 use Rattle.rules.specs.Bounded.{upto}
 use Rattle.rules.specs.Calls.{overwrite}
 use Rattle.rules.proofs.Lists.{length-upto, getD-upto, upto-below}
@@ -64,3 +65,15 @@ overwrite-agree n f g old h = rw (map-agree f g (upto n) (λ k m. h k (upto-belo
 pub overwrite-twice : (n : ℕ) (f g : ℕ → ℕ) (old : List ℕ) → overwrite n f (overwrite n g old) ≡ overwrite n f old
 unfolding overwrite
 overwrite-twice n f g old = rw (drop-at (map g (upto n)) (drop n old) n (map-upto g n))
+
+-- A part from a place on, lent, written over from its first byte on, and given back.
+module _ (at : ℕ) (old : List ℕ) where
+  pub lent-part : midOf at (length old - at) old ≡ drop at old
+  lent-part = take-all (length old - at) (drop at old) (rw length-drop (omega arith))
+
+  pub lent-long : (n : ℕ) → at + n ≤ length old → n ≤ length (midOf at (length old - at) old)
+  lent-long n l = rw (lent-part, length-drop) (omega arith)
+
+  pub lent-back : (n : ℕ) (f : ℕ → ℕ) (part : List ℕ) → part ≡ overwrite n f (midOf at (length old - at) old)
+      → putMid at (length old - at) old part ≡ take at old ++ overwrite n f (drop at old)
+  lent-back n f part e = rw (e, lent-part, drop-of-length-le (drop at old) {i = length old - at} (rw length-drop (omega arith)), append-nil)

@@ -1,7 +1,7 @@
 -- The calls (M 10): each entry point's answer, and what scratch and row hold afterwards, on refusals too.
 -- Assumes nothing.
-use Prim.Native.Nat.{ℕ, _/_, _%_}
-use mathlib.Core.Bool.{Bool, true, false, cond, _&&_}
+use Prim.Native.Nat.{ℕ}
+use mathlib.Core.Bool.{Bool, cond, _&&_}
 use mathlib.Core.List.{List, [], _∷_, _++_, map}
 use lib.Dec.{ltb, leb}
 use lib.ListN.{length, take, drop}
@@ -9,21 +9,16 @@ use Rattle.rules.specs.Bounded.{upto, every}
 use Rattle.rules.specs.Layout.{Answer, gives, refuses, opening, codeAt, codeOf, require, tupleRule}
 use Rattle.rules.specs.Model.{Model, modelOf}
 use Rattle.rules.specs.Subclass.{subclass}
+use Rattle.rules.specs.Bits.{bit}
+use Rattle.rules.specs.Scratch.{scratchBytes, matrixByte}
 use Rattle.rules.specs.Lookup.{Found, found, missing, ambiguous, lookup}
 use Rattle.rules.specs.Types.{Static, inType, sendType}
 use Rattle.rules.specs.Coverage.{concreteClass, covers, judge, coverageRefusal, verdict}
 use Rattle.rules.specs.Machine.{Outcome, run}
 
--- the least lengths of a lent scratch and of a lent row (M 10.2, 10.3)
-abbrev pub scratchBytes : ℕ
-scratchBytes = 16384
-
+-- the least length of a lent row (M 10.3)
 abbrev pub rowBytes : ℕ
 rowBytes = 128
-
--- the subclass matrix has 128 columns
-abbrev pub matrixStride : ℕ
-matrixStride = 128
 
 module _ {A : Type 0} where
   unfoldable pub onOpening : Answer (List ℕ) → Model → (Model → Answer A) → Answer A
@@ -128,15 +123,6 @@ runCall b scratch f tuple count = withScratch b scratch (runIn f tuple count)
 -- the first n bytes are these, and those behind them stay
 unfoldable pub overwrite : ℕ → (ℕ → ℕ) → List ℕ → List ℕ
 overwrite n new old = map new (upto n) ++ drop n old
-
-unfoldable pub bit : Bool → ℕ
-bit true = 1
-bit false = 0
-
--- byte k of the matrix: whether the class of its row is under that of its column; 0 where one of the two is no class (M 10.2)
-unfoldable pub matrixByte : Model → ℕ → ℕ
-matrixByte M k =
-    bit (ltb (k / matrixStride) (M .classes) && ltb (k % matrixStride) (M .classes) && subclass M (k / matrixStride) (k % matrixStride))
 
 unfoldable pub scratchOn : Answer (List ℕ) → Model → List ℕ → List ℕ
 scratchOn (gives counts) M scratch = cond (leb scratchBytes (length scratch)) (overwrite scratchBytes (matrixByte M) scratch) scratch

@@ -11,7 +11,9 @@ use Rattle.rules.specs.Bounded.{upto, any}
 use Rattle.rules.specs.Layout.{Answer, gives, refuses}
 use Rattle.rules.specs.Types.{Static}
 use Rattle.rules.specs.Machine.{Ending, value, spent, deep, stopped}
-use Rattle.rules.specs.Calls.{scratchBytes, rowBytes, openingCall, ancestryCall, lookupCall, sendTypeCall, checkCall, witnessCall, bodyViewCall, bodyViewStart, runCall, bit, rowAfter}
+use Rattle.rules.specs.Calls.{rowBytes, openingCall, ancestryCall, lookupCall, sendTypeCall, checkCall, witnessCall, bodyViewCall, bodyViewStart, runCall, rowAfter}
+use Rattle.rules.specs.Scratch.{scratchBytes}
+use Rattle.rules.specs.Bits.{bit}
 use Rattle.rules.specs.Ascii.{ascii}
 use Rattle.rules.specs.Chart.{chartCall, bufferAfter}
 use Rattle.rules.specs.Rough.{Rough, one, mayFail, several, roughCall}

@@ -10,6 +10,8 @@ pub mod Coverage
 pub mod First
 pub mod Alike
 pub mod Machine
+pub mod Bits
+pub mod Scratch
 pub mod Calls
 pub mod Ascii
 pub mod Decimal

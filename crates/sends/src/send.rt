@@ -9,10 +9,10 @@ ghost use mathlib.Core.Path.{_≡_};
 ghost use mathlib.Core.Bool.{true, false};
 ghost use Prim.Native.Nat.{_<_};
 ghost use Rattle.rules.specs.Bounded.{every};
-ghost use Rattle.rules.specs.Layout.{tupleRule};
+ghost use Rattle.rules.specs.Layout.{maxClasses, tupleRule};
 ghost use Rattle.rules.specs.Model.{modelOf, present};
 ghost use Rattle.rules.specs.Coverage.{concreteClass};
-ghost use Rattle.rules.specs.Calls.{sendRule, matrixStride};
+ghost use Rattle.rules.specs.Calls.{sendRule};
 ghost use Rattle.layout.specs.Opened.{Opened};
 ghost use Rattle.subclasses.specs.Send.{classesOf, tupleOf};
 ghost use Rattle.sends.specs.Send.{fitsPlace, Passes, PassesNone};
@@ -56,9 +56,9 @@ fn is_send(bundle: &[u8], b: Bundle, send: Send) -> bool
 
 // A tuple as bytes: classes have numbers below 128.
 fn class_bytes(tuple: Tuple) -> [u8; Bundle::PLACES]
-    requires { ⌜ tuple .a0 < matrixStride ⌝ }
-    requires { ⌜ tuple .a1 < matrixStride ⌝ }
-    requires { ⌜ tuple .a2 < matrixStride ⌝ }
+    requires { ⌜ tuple .a0 < maxClasses ⌝ }
+    requires { ⌜ tuple .a1 < maxClasses ⌝ }
+    requires { ⌜ tuple .a2 < maxClasses ⌝ }
     ensures { λ r. ⌜ r ≡ classesOf tuple ⌝ }
 {
     [tuple.a0 as u8, tuple.a1 as u8, tuple.a2 as u8]

@@ -9,21 +9,24 @@ use lib.Dec.{ltb}
 use lib.ListN.{length, getD}
 use borrow.Author.Tests.{ltb-true}
 use Rattle.rules.specs.Bounded.{every, matching}
-use Rattle.rules.specs.Layout.{places}
+use Rattle.rules.specs.Layout.{places, maxClasses}
 use Rattle.rules.specs.Model.{Model, modelOf, present}
 use Rattle.rules.specs.Subclass.{subclass, under}
-use Rattle.rules.specs.Calls.{scratchBytes, matrixStride}
+use Rattle.rules.specs.Scratch.{scratchBytes, classUnder, entryAt}
 use Rattle.rules.proofs.Lists.{every-place, and-left, and-right}
+use Rattle.rules.proofs.Scratch.{class-under}
 use Rattle.layout.specs.Opened.{Opened}
 use Rattle.layout.specs.declared.bundle.Bundle.{Bundle}
 use Rattle.layout.proofs.Opened.{wellformed-of, counts-of}
-use Rattle.subclasses.specs.Matrix.{Filled, filled, entryAt, entriesAt}
+use Rattle.subclasses.specs.Matrix.{Filled, filled, entriesAt}
 use Rattle.subclasses.specs.Prepared.{Prepared}
 use Rattle.subclasses.specs.Places.{Arguments, OfArity, InMatrix, Comparable}
-use Rattle.subclasses.proofs.Entry.{filled-read}
 
 pub filled-long : {M : Model} {s : List ℕ} → Filled M s → scratchBytes ≤ length s
-filled-long (filled f) = f .long
+filled-long (filled long entries) = long
+
+filled-entry : {M : Model} {s : List ℕ} → Filled M s → (a c : ℕ) → a < maxClasses → c < maxClasses → entryAt s a c ≡ classUnder M a c
+filled-entry (filled long entries) = entries
 
 -- each of a list of classes is one
 pub class-below : (M : Model) (xs : List ℕ) → present M xs ≡ true → (i : ℕ) → i < length xs → getD xs i 0 < M .classes
@@ -71,18 +74,17 @@ module _ {b : List ℕ} {t : Bundle} (o : Opened b t) where
 
 module _ {b : List ℕ} {t : Bundle} {s : List ℕ} (p : Prepared b t s) where
   -- what `under` requires of two classes of the bundle
-  pub asked : (a c : ℕ) → a < t .classes → c < t .classes → (scratchBytes ≤ length s) × ((a < matrixStride) × (c < matrixStride))
+  pub asked : (a c : ℕ) → a < t .classes → c < t .classes → (scratchBytes ≤ length s) × ((a < maxClasses) × (c < maxClasses))
   asked a c h k =
       let counts = counts-of (p .opened) in
       let limit = wellformed-of (p .opened) .classes-limit in
       (filled-long (p .filled), (omega arith, omega arith))
 
-  -- the entry of two classes says whether the one is under the other
-  entry-subclass : (a c : ℕ) → a < modelOf b .classes → c < modelOf b .classes → entryAt s a c ≡ subclass (modelOf b) a c
-  unfolding entryAt
+  -- the entry of a class says whether it is under another, also of a number below the limit that is no class
+  pub entry-subclass : (a c : ℕ) → a < modelOf b .classes → c < maxClasses → entryAt s a c ≡ subclass (modelOf b) a c
   entry-subclass a c h k =
-      let limit = wellformed-of (p .opened) .classes-limit in
-      filled-read (modelOf b) s a c (p .filled) (omega arith) (omega arith) h k
+      let w = wellformed-of (p .opened) in
+      filled-entry (p .filled) a c (omega (arith, w .classes-limit)) k ∙ class-under (modelOf b) w a c h
 
   entries-under : (xs ys : List ℕ) → present (modelOf b) xs ≡ true → present (modelOf b) ys ≡ true → entriesAt s xs ys ≡ under (modelOf b) xs ys
   unfolding entriesAt under matching
@@ -93,13 +95,14 @@ module _ {b : List ℕ} {t : Bundle} {s : List ℕ} (p : Prepared b t s) where
       let M = modelOf b in
       let u = present-cons M x xs h in
       let v = present-cons M y ys k in
-      ap₂ _&&_ (entry-subclass x y (u .0) (v .0)) (entries-under xs ys (u .1) (v .1))
+      ap₂ _&&_ (entry-subclass x y (u .0) (omega (arith, v .0, wellformed-of (p .opened) .classes-limit))) (entries-under xs ys (u .1) (v .1))
 
   -- and what it gives
   pub answered : {a c : ℕ} {r : Bool} → r ≡ entryAt s a c → a < t .classes → c < t .classes → {x y : ℕ} → a ≡ x → c ≡ y
       → r ≡ subclass (modelOf b) x y
   answered {a} {c} u h k e g =
       let counts = counts-of (p .opened) in
+      let limit = wellformed-of (p .opened) .classes-limit in
       u ∙ entry-subclass a c (omega arith) (omega arith) ∙ ap₂ (subclass (modelOf b)) e g
 
   -- the same of two tuples, which are known by equations

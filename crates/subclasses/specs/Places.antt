@@ -5,8 +5,9 @@ use mathlib.Core.Path.{_≡_}
 use mathlib.Core.Bool.{true}
 use mathlib.Core.List.{List}
 use lib.ListN.{length, getD}
+use Rattle.rules.specs.Layout.{maxClasses}
 use Rattle.rules.specs.Model.{Model, present}
-use Rattle.rules.specs.Calls.{scratchBytes, matrixStride}
+use Rattle.rules.specs.Scratch.{scratchBytes}
 
 -- the arguments of a send of function f: as many classes of the bundle as it has places
 pub record Arguments (M : Model) (f : ℕ) (args : List ℕ) : Type 0 where
@@ -21,7 +22,7 @@ pub record OfArity (M : Model) (n m : ℕ) : Type 0 where
 
 -- each class has a row and a column in the matrix
 abbrev pub InMatrix : List ℕ → Type 0
-InMatrix xs = (i : ℕ) → i < length xs → getD xs i 0 < matrixStride
+InMatrix xs = (i : ℕ) → i < length xs → getD xs i 0 < maxClasses
 
 -- two tuples that the matrix can compare
 pub record Comparable (s xs ys : List ℕ) : Type 0 where

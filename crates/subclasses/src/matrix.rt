@@ -4,12 +4,14 @@ use layout::bundle::Bundle;
 use layout::field::parent;
 use layout::field::parent_count;
 ghost use mathlib.Core.Path.{_≡_};
-ghost use Prim.Native.Nat.{_+_, _*_, _<_, _≤_};
+ghost use Prim.Native.Nat.{_*_, _<_, _≤_};
 ghost use lib.ListN.{length};
+ghost use Rattle.rules.specs.Layout.{maxClasses};
 ghost use Rattle.rules.specs.Model.{modelOf};
-ghost use Rattle.rules.specs.Calls.{scratchBytes, matrixStride, overwrite, matrixByte};
+ghost use Rattle.rules.specs.Scratch.{scratchBytes, matrixRow, entryAt, matrixByte};
+ghost use Rattle.rules.specs.Calls.{overwrite};
 ghost use Rattle.layout.specs.Opened.{Opened};
-ghost use Rattle.subclasses.specs.Matrix.{FilledTo, entryAt, inherited};
+ghost use Rattle.subclasses.specs.Matrix.{FilledTo, inherited};
 
 // The entries of a row, and the bytes of the matrix.
 const STRIDE: usize = 128;
@@ -21,7 +23,7 @@ fn inherits(bytes: &[u8], b: Bundle, scratch: &[u8], a: usize, c: usize) -> bool
     requires { ⌜ Opened (now bytes) b ⌝ }
     requires { ⌜ a < b .classes ⌝ }
     requires { ⌜ c < b .classes ⌝ }
-    requires { ⌜ FilledTo (modelOf (now bytes)) (now scratch) (matrixStride * a) ⌝ }
+    requires { ⌜ FilledTo (modelOf (now bytes)) (now scratch) (matrixRow * a) ⌝ }
     ensures { λ r. ⌜ r ≡ inherited (modelOf (now (bytes .entry))) a c ⌝ }
 {
     let n = parent_count(bytes, b, a);
@@ -77,8 +79,8 @@ pub fn fill(bytes: &[u8], b: Bundle, scratch: &mut [u8])
 // The entry of class a under class c. In a scratch that holds the matrix of a model, it says whether a is under c.
 pub fn under(scratch: &[u8], a: usize, c: usize) -> bool
     requires { ⌜ scratchBytes ≤ length (now scratch) ⌝ }
-    requires { ⌜ a < matrixStride ⌝ }
-    requires { ⌜ c < matrixStride ⌝ }
+    requires { ⌜ a < maxClasses ⌝ }
+    requires { ⌜ c < maxClasses ⌝ }
     ensures { λ r. ⌜ r ≡ entryAt (now (scratch .entry)) a c ⌝ }
 {
     scratch[STRIDE * a + c] == 1

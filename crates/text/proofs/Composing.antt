@@ -12,7 +12,8 @@ use Rattle.rules.specs.Model.{Model, Wellformed, modelOf}
 use Rattle.rules.specs.Types.{Typing, typed, breaks, typeBody}
 use Rattle.rules.specs.Coverage.{Judgement, holds, fails, judge, brokenMethod, brokenSignature, coverageRefusal, bodyRefusal, bodyVerdict, tupleVerdict, coverageVerdict}
 use Rattle.rules.specs.Coverage as coverage-rules
-use Rattle.rules.specs.Calls.{scratchBytes, whenOpen, onOpening, withScratch, checkCall}
+use Rattle.rules.specs.Calls.{whenOpen, onOpening, withScratch, checkCall}
+use Rattle.rules.specs.Scratch.{scratchBytes}
 use Rattle.rules.proofs.Coverage.{broken-signature}
 use Rattle.bundle_rules.specs.Opening.{saidOf}
 use Rattle.layout.specs.declared.bundle.Bundle.{Bundle}

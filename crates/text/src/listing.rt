@@ -13,7 +13,7 @@ use subclasses::matrix::BYTES;
 ghost use mathlib.Core.Path.{_≡_};
 ghost use Prim.Native.Nat.{_≤_};
 ghost use lib.ListN.{length};
-ghost use Rattle.rules.specs.Calls.{scratchBytes};
+ghost use Rattle.rules.specs.Scratch.{scratchBytes};
 ghost use Rattle.text.specs.Listed.{OpenedAs, Composed, Told, Lists, listingReply};
 
 // The text is at the start of the buffer, so many bytes; or the buffer is too short, and untouched.

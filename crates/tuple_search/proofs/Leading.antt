@@ -16,13 +16,14 @@ use Rattle.rules.specs.Model.{Model, Wellformed, modelOf}
 use Rattle.rules.specs.Subclass.{subclass, under}
 use Rattle.rules.specs.Lookup.{found, applies, left, applicableSoFar, asSpecific, lookup}
 use Rattle.rules.specs.Alike.{aboveAlike, alikeAt}
+use Rattle.rules.specs.Bits.{inSet}
 use Rattle.rules.proofs.Lists.{and-left, and-right, every-from, keep-mem, upto-below, matching-from}
 use Rattle.rules.proofs.Lookup.{Candidate, leader-lookup, candidate-left}
 use Rattle.layout.specs.Opened.{Opened}
 use Rattle.layout.specs.declared.bundle.Bundle.{Bundle}
 use Rattle.layout.proofs.Opened.{counts-of}
 use Rattle.subclasses.proofs.Asked.{class-below}
-use Rattle.method_sets.specs.Sets.{inSet, rowAt, methodAt, SameWithin, classOf, Ordered, Tabled, Member, LedBy}
+use Rattle.method_sets.specs.Sets.{rowAt, methodAt, SameWithin, classOf, Ordered, Tabled, Member, LedBy}
 use Rattle.tuple_search.specs.declared.question.Question.{Question}
 use Rattle.tuple_search.specs.Questions.{functionOf}
 use Rattle.tuple_search.specs.Search.{Filling}

@@ -17,6 +17,7 @@ use Rattle.rules.specs.Model.{Model, Wellformed, modelOf, present}
 use Rattle.rules.specs.Subclass.{subclass, under}
 use Rattle.rules.specs.Lookup.{left}
 use Rattle.rules.specs.Coverage.{concreteClass, candidateClass, Below}
+use Rattle.rules.specs.Bits.{inSet}
 use Rattle.rules.proofs.Lists.{every-mem, every-from, matching-length}
 use Rattle.rules.proofs.Lookup.{left-none, left-more}
 use Rattle.rules.proofs.Coverage.{concretes-present}
@@ -24,7 +25,7 @@ use Rattle.layout.specs.Opened.{Opened}
 use Rattle.layout.specs.declared.bundle.Bundle.{Bundle}
 use Rattle.layout.proofs.Opened.{wellformed-of, counts-of}
 use Rattle.subclasses.specs.Places.{Arguments}
-use Rattle.method_sets.specs.Sets.{inSet, rowAt, methodAt, classOf, Ordered, Tabled}
+use Rattle.method_sets.specs.Sets.{rowAt, methodAt, classOf, Ordered, Tabled}
 use Rattle.tuple_search.specs.declared.question.Question.{Question}
 use Rattle.tuple_search.specs.declared.question.Question.the-variants.{Rule, Finds, FindsOnly}
 use Rattle.tuple_search.specs.Questions.{About, functionOf}

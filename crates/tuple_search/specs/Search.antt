@@ -10,7 +10,8 @@ use Rattle.rules.specs.Bounded.{first}
 use Rattle.rules.specs.Model.{Model, present}
 use Rattle.rules.specs.Lookup.{left}
 use Rattle.rules.specs.Coverage.{tuples}
-use Rattle.method_sets.specs.Sets.{inSet, methodAt, Ordered, Tabled}
+use Rattle.rules.specs.Bits.{inSet}
+use Rattle.method_sets.specs.Sets.{methodAt, Ordered, Tabled}
 use Rattle.tuple_search.specs.declared.question.Question.{Question}
 use Rattle.tuple_search.specs.Questions.{About, functionOf, stopsAt, byDeclared}
 

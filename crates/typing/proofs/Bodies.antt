@@ -12,7 +12,8 @@ use lib.Seq.{length-take-le, drop-cons}
 use borrow.Author.Tests.{le-leb, lt-leb}
 use Rattle.rules.specs.Model.{Model, Instr, arg, new, send}
 use Rattle.rules.specs.Types.{Static, typed, breaks, Effect, leaves, breaksBy, arguments, argType, sendType, sendEffect, effect, afterEffect, inType, ending, typeFrom, typeBody}
-use Rattle.rules.specs.Calls.{rowBytes, overwrite, bit}
+use Rattle.rules.specs.Calls.{rowBytes, overwrite}
+use Rattle.rules.specs.Bits.{bit}
 use Rattle.typing.specs.Rows.{typeByte, Rows}
 use Rattle.typing.specs.Sends.{inhabited, Sent}
 use Rattle.typing.specs.Bodies.{typingOf, Stack, Agrees, Applied, Ended}

@@ -6,40 +6,18 @@ use native.Mathlib.Omega.{arith}
 use mathlib.Core.Path.{_≡_, refl, sym, ap, _∙_}
 use mathlib.Core.Bool.{Bool, true, false, cond, _||_}
 use mathlib.Core.Logic.{_⊎_, inl, inr}
-use mathlib.Core.List.{List, [], _∷_, _++_, append-nil}
-use lib.ListN.{length, getD, take, drop, length-append, length-drop, drop-of-length-le, List·getD-append}
-use lib.Seq.{length-take-le, take-all, getD-take, getD-drop, getD-append-add, getD-append-seam}
+use mathlib.Core.List.{List, [], _∷_, _++_}
+use lib.ListN.{length, getD, take, drop, length-append, length-drop, List·getD-append}
+use lib.Seq.{length-take-le, getD-take, getD-drop, getD-append-add, getD-append-seam}
 use borrow.Rule.Slice.PartMut.{midOf, putMid}
 use Rattle.rules.specs.Bounded.{any}
-use Rattle.rules.specs.Model.{Model, modelOf}
+use Rattle.rules.specs.Model.{Model}
 use Rattle.rules.specs.Subclass.{subclass}
 use Rattle.rules.specs.Types.{Static, inType}
-use Rattle.rules.specs.Calls.{rowBytes, overwrite, bit}
-use Rattle.rules.proofs.Subclass.{subclass-not-above}
-use Rattle.rules.proofs.Overwrite.{overwrite-length, overwrite-at, overwrite-agree, overwrite-twice}
-use Rattle.layout.specs.Opened.{Opened}
-use Rattle.layout.specs.declared.bundle.Bundle.{Bundle}
-use Rattle.layout.proofs.Opened.{wellformed-of, counts-of}
+use Rattle.rules.specs.Calls.{rowBytes, overwrite}
+use Rattle.rules.specs.Bits.{bit}
+use Rattle.rules.proofs.Overwrite.{lent-back, overwrite-length, overwrite-at, overwrite-agree, overwrite-twice}
 use Rattle.typing.specs.Rows.{typeByte, noByte, sameByte, joined, joinedByte, Rows}
-
-pub joined-hit : (M : Model) (c k old : ℕ) → subclass M c k ≡ true → 1 ≡ joined M c k old
-unfolding joined
-joined-hit M c k old e = rw e
-
-pub joined-miss : (M : Model) (c k old : ℕ) → subclass M c k ≡ false → old ≡ joined M c k old
-unfolding joined
-joined-miss M c k old e = rw e
-
-module _ {bytes : List ℕ} {b : Bundle} (o : Opened bytes b) where
-  -- a class of the bundle is under no number that is no class
-  above-none : (c k : ℕ) → c < b .classes → b .classes ≤ k → (t : Bool) → subclass (modelOf bytes) c k ≡ t → subclass (modelOf bytes) c k ≡ false
-  above-none c k h l true e =
-      let counts = counts-of o in
-      absurd (omega (arith, subclass-not-above (modelOf bytes) (wellformed-of o) c k (omega arith) e))
-  above-none c k h l false e = e
-
-  pub joined-absent : (c k old : ℕ) → c < b .classes → b .classes ≤ k → old ≡ joined (modelOf bytes) c k old
-  joined-absent c k old h l = joined-miss (modelOf bytes) c k old (above-none c k h l (subclass (modelOf bytes) c k) refl)
 
 -- one class more in a type: it is in the type or under the new class
 in-type-snoc : (M : Model) (t : Static) (c k : ℕ) → inType M (t ++ (c ∷ [])) k ≡ (inType M t k || subclass M c k)
@@ -96,19 +74,11 @@ pub rows-none : (M : Model) (rows : List ℕ) → Rows M rows []
 rows-none M rows = record { long = omega arith; holds = λ i h. absurd (omega (arith, h)) }
 
 -- the rows from one on, lent and given back
-pub lent-part : (h : ℕ) (rows : List ℕ) → midOf (rowBytes * h) (length rows - rowBytes * h) rows ≡ drop (rowBytes * h) rows
-lent-part h rows = take-all (length rows - rowBytes * h) (drop (rowBytes * h) rows) (rw length-drop (omega arith))
-
-pub lent-long : (h : ℕ) (rows : List ℕ) → rowBytes * h + rowBytes ≤ length rows
-    → rowBytes ≤ length (midOf (rowBytes * h) (length rows - rowBytes * h) rows)
-lent-long h rows l = rw (lent-part h rows, length-drop) (omega arith)
-
-pub lent-back : (M : Model) (t : Static) (h : ℕ) (rows part : List ℕ)
+pub stacked-back : (M : Model) (t : Static) (h : ℕ) (rows part : List ℕ)
     → part ≡ overwrite rowBytes (typeByte M t) (midOf (rowBytes * h) (length rows - rowBytes * h) rows)
     → putMid (rowBytes * h) (length rows - rowBytes * h) rows part ≡ stacked M t h rows
 unfolding stacked
-lent-back M t h rows part e =
-    rw (e, lent-part h rows, drop-of-length-le (drop (rowBytes * h) rows) {i = length rows - rowBytes * h} (rw length-drop (omega arith)), append-nil)
+stacked-back M t h rows part e = lent-back (rowBytes * h) rows rowBytes (typeByte M t) part e
 
 module _ (M : Model) (rows : List ℕ) where
   pub stacked-length : (t : Static) (h : ℕ) → rowBytes * h + rowBytes ≤ length rows → length (stacked M t h rows) ≡ length rows

@@ -12,7 +12,8 @@ use borrow.Author.Tests.{eq-eqb, ne-eqb}
 use Rattle.rules.specs.Bounded.{upto, keep, matching}
 use Rattle.rules.specs.Model.{Model}
 use Rattle.rules.specs.Types.{Static, inType, licenses, licensing, sendType}
-use Rattle.rules.specs.Calls.{rowBytes, overwrite, bit, licensed, rowOn}
+use Rattle.rules.specs.Calls.{rowBytes, overwrite, licensed, rowOn}
+use Rattle.rules.specs.Bits.{bit}
 use Rattle.rules.proofs.Lists.{keep-upto-hit, keep-upto-miss, matching-at, matching-from}
 use Rattle.typing.specs.Rows.{typeByte, noByte, copiedIf, joinedByte, Rows}
 use Rattle.typing.specs.Sends.{licensesFor, inhabited, Licensed, Sent}

@@ -8,7 +8,8 @@ use lib.ListN.{length, getD}
 use Rattle.rules.specs.Model.{Model}
 use Rattle.rules.specs.Subclass.{subclass}
 use Rattle.rules.specs.Types.{Static, inType}
-use Rattle.rules.specs.Calls.{rowBytes, overwrite, bit}
+use Rattle.rules.specs.Calls.{rowBytes, overwrite}
+use Rattle.rules.specs.Bits.{bit}
 
 -- byte k of the row of a type
 unfoldable pub typeByte : Model → Static → ℕ → ℕ

@@ -3,15 +3,16 @@ use layout::bundle::Bundle;
 use layout::bytes::byte_at;
 use subclasses::matrix::under;
 ghost use mathlib.Core.Path.{_≡_};
-ghost use mathlib.Core.Bool.{true};
+ghost use mathlib.Core.Bool.{true, cond};
 ghost use mathlib.Core.List.{[], _∷_};
 ghost use Prim.Native.Nat.{_*_, _<_, _≤_};
 ghost use lib.ListN.{length};
-ghost use Rattle.rules.specs.Layout.{places};
+ghost use Rattle.rules.specs.Layout.{places, maxClasses};
 ghost use Rattle.rules.specs.Model.{modelOf, present};
+ghost use Rattle.rules.specs.Scratch.{scratchBytes, entryAt};
 ghost use Rattle.rules.specs.Calls.{rowBytes, overwrite};
 ghost use Rattle.subclasses.specs.Prepared.{Prepared};
-ghost use Rattle.typing.specs.Rows.{typeByte, noByte, sameByte, joined, joinedByte, Rows, classTypes};
+ghost use Rattle.typing.specs.Rows.{typeByte, noByte, sameByte, joinedByte, Rows, classTypes};
 
 // The bytes of a row.
 pub const ROW_BYTES: usize = 128;
@@ -41,22 +42,20 @@ pub(crate) fn copy(from: &[u8], row: &mut [u8])
     }
 }
 
-// What the byte of class k becomes when class c's type is joined: a present class is under present ones only.
-fn join_byte(bytes: &[u8], b: Bundle, scratch: &[u8], c: usize, k: usize, old: u8) -> u8
-    requires { ⌜ Prepared (now bytes) b (now scratch) ⌝ }
-    requires { ⌜ c < b .classes ⌝ }
-    ensures { λ r. ⌜ r ≡ joined (modelOf (now (bytes .entry))) c k old ⌝ }
+// What the byte of class k becomes when class c's type is joined, by the entry of the scratch.
+fn join_byte(scratch: &[u8], c: usize, k: usize, old: u8) -> u8
+    requires { ⌜ scratchBytes ≤ length (now scratch) ⌝ }
+    requires { ⌜ c < maxClasses ⌝ }
+    requires { ⌜ k < maxClasses ⌝ }
+    ensures { λ r. ⌜ r ≡ cond (entryAt (now (scratch .entry)) c k) 1 old ⌝ }
 {
-    if b.classes <= k {
-        return old;
-    }
     if under(scratch, c, k) {
         return 1;
     }
     old
 }
 
-// Joins class c's type to that of the row.
+// Joins class c's type to that of the row. All 128 entries are asked: those of absent classes are empty, and a test which are present would take longer.
 pub(crate) fn join(bytes: &[u8], b: Bundle, scratch: &[u8], c: usize, row: &mut [u8])
     requires { ⌜ Prepared (now bytes) b (now scratch) ⌝ }
     requires { ⌜ c < b .classes ⌝ }
@@ -65,7 +64,7 @@ pub(crate) fn join(bytes: &[u8], b: Bundle, scratch: &[u8], c: usize, row: &mut 
 {
     let mut k = 0;
     while k < ROW_BYTES {
-        let v = join_byte(bytes, b, scratch, c, k, row[k]);
+        let v = join_byte(scratch, c, k, row[k]);
         row[k] = v;
         k += 1;
     }

@@ -2,7 +2,7 @@
 -- Assumes nothing.
 use borrow.Author.Needs.{needs}
 use native.Mathlib.Omega.{arith}
-use Rattle.rules.specs.Calls.{bit}
+use Rattle.rules.specs.Bits.{bit}
 use Rattle.method_sets.proofs.sets.doubled.Statement.{statement}
 use Rattle.method_sets.proofs.sets.doubled.Tie as tie
 

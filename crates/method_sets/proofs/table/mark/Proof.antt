@@ -1,6 +1,6 @@
 -- `method_sets::table::mark` meets its contract: a mark is the bit of its test.
 -- Assumes nothing.
-use Rattle.rules.specs.Calls.{bit}
+use Rattle.rules.specs.Bits.{bit}
 use Rattle.method_sets.proofs.table.mark.Statement.{statement}
 use Rattle.method_sets.proofs.table.mark.Tie as tie
 

@@ -5,8 +5,8 @@ use native.Mathlib.Omega.{arith}
 use mathlib.Core.Path.{_≡_, ap, _∙_}
 use lib.ListN.{length, getD}
 use Rattle.rules.specs.Bytes.{byte}
-use Rattle.rules.specs.Calls.{bit}
-use Rattle.subclasses.specs.Matrix.{entryAt}
+use Rattle.rules.specs.Bits.{bit}
+use Rattle.rules.specs.Scratch.{entryAt}
 use Rattle.method_sets.specs.Sets.{Marked}
 use Rattle.method_sets.proofs.Marks.{marked-none, marked-more}
 use Rattle.method_sets.proofs.table.mark_above.Statement.{statement}

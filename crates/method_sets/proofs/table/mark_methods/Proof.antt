@@ -5,7 +5,7 @@ use native.Mathlib.Omega.{arith}
 use mathlib.Core.Path.{_≡_, ap, _∙_}
 use lib.Dec.{eqb}
 use Rattle.rules.specs.Model.{modelOf}
-use Rattle.rules.specs.Calls.{bit}
+use Rattle.rules.specs.Bits.{bit}
 use Rattle.layout.proofs.Opened.{placed-of}
 use Rattle.method_sets.specs.Sets.{Marked, methodAt}
 use Rattle.method_sets.proofs.Marks.{marked-none, marked-more}

@@ -2,7 +2,7 @@
 -- Assumes nothing.
 use borrow.Author.Needs.{needs}
 use mathlib.Core.Path.{_∙_}
-use Rattle.rules.specs.Calls.{bit}
+use Rattle.rules.specs.Bits.{bit}
 use Rattle.reply.specs.Replies.{yesOrNo}
 use Rattle.reply.proofs.Replies.{refusal-reply}
 use Rattle.reply.proofs.Reply.of_ancestry.Statement.{statement}

@@ -3,7 +3,7 @@
 use borrow.Author.Needs.{needs}
 use native.Mathlib.Omega.{arith}
 use mathlib.Core.Path.{sym, ap, _∙_}
-use Rattle.rules.specs.Calls.{bit}
+use Rattle.rules.specs.Bits.{bit}
 use Rattle.subclasses.proofs.Entry.{filled-less, absent-row, absent-column, itself-entry, inherited-entry}
 use Rattle.subclasses.proofs.matrix.entry.Statement.{statement}
 use Rattle.subclasses.proofs.matrix.entry.Tie as tie

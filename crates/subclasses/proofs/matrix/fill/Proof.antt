@@ -6,7 +6,8 @@ use native.Mathlib.Omega.{arith}
 use mathlib.Core.Path.{_≡_, sym, ap, _∙_}
 use lib.ListN.{length}
 use Rattle.rules.specs.Model.{modelOf}
-use Rattle.rules.specs.Calls.{scratchBytes, overwrite, matrixByte}
+use Rattle.rules.specs.Scratch.{scratchBytes, matrixByte}
+use Rattle.rules.specs.Calls.{overwrite}
 use Rattle.rules.proofs.Overwrite.{overwrite-none, overwrite-more, overwrite-length}
 use Rattle.subclasses.proofs.Entry.{filled-overwrite}
 use Rattle.subclasses.proofs.matrix.fill.Statement.{statement}

@@ -2,7 +2,7 @@
 -- Assumes nothing.
 use borrow.Author.Needs.{needs}
 use mathlib.Core.Path.{refl}
-use Rattle.subclasses.specs.Matrix.{entryAt}
+use Rattle.rules.specs.Scratch.{entryAt}
 use Rattle.subclasses.proofs.matrix.under.Statement.{statement}
 use Rattle.subclasses.proofs.matrix.under.Tie as tie
 

@@ -8,8 +8,9 @@ use lib.ListN.{length, getD}
 use borrow.Author.Count.{below-none, below-more}
 use borrow.Author.Tests.{not-true, not-false}
 use Rattle.rules.specs.Bytes.{byte}
+use Rattle.rules.specs.Scratch.{entryAt}
 use Rattle.rules.proofs.Lists.{matching-from, matching-broken}
-use Rattle.subclasses.specs.Matrix.{entryAt, entriesAt}
+use Rattle.subclasses.specs.Matrix.{entriesAt}
 use Rattle.subclasses.proofs.places.each_under.Statement.{statement}
 use Rattle.subclasses.proofs.places.each_under.Tie as tie
 

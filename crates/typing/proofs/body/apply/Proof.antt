@@ -1,12 +1,15 @@
 -- `typing::body::apply` meets its contract: each instruction by its case.
 -- Assumes nothing.
+use Prim.Native.Nat.{_*_}
 use mathlib.Core.Path.{_≡_, sym, ap, _∙_}
+use borrow.Author.Needs.{needs}
 use Rattle.rules.specs.Model.{arg, new, send}
+use Rattle.rules.specs.Calls.{rowBytes}
+use Rattle.rules.proofs.Overwrite.{lent-long}
 use Rattle.layout.specs.Instruction.{instr}
-use Rattle.typing.proofs.Rows.{lent-long, lent-back}
+use Rattle.typing.proofs.Rows.{stacked-back}
 use Rattle.typing.proofs.Operands.{operand-arg, operand-new, operand-send}
 use Rattle.typing.proofs.Bodies.{applied-arg, applied-new, applied-abstract}
-use borrow.Author.Needs.{needs}
 use Rattle.typing.proofs.body.apply.Statement.{statement}
 use Rattle.typing.proofs.body.apply.Tie as tie
 
@@ -27,12 +30,12 @@ arg-row-requires : tie.Need-arg-row-requires
 arg-row-requires c κs =
     let g = c .before .before .before .before .before .before .before in
     let place = operand-arg (g .pre .0 .opened) _ (g .pre .1 .0) _ (g .pre .1 .1 .0) _ (is-arg (c .before .before)) in
-    (g .pre .0, (g .pre .1 .0, (place, lent-long (g .args .h) (g .args .rows .now) (g .pre .1 .1 .1))))
+    (g .pre .0, (g .pre .1 .0, (place, lent-long (rowBytes * g .args .h) (g .args .rows .now) rowBytes (g .pre .1 .1 .1))))
 
 returns : tie.Need-returns
 returns c =
     let g = c .before .before .before .before .before .before .before .before .before .before in
-    rw (is-arg (c .before .before .before .before .before), lent-back _ _ (g .args .h) (g .args .rows .now) _ (c .before .before .«arg-row» .ensures))
+    rw (is-arg (c .before .before .before .before .before), stacked-back _ _ (g .args .h) (g .args .rows .now) _ (c .before .before .«arg-row» .ensures))
     (applied-arg _ _ (g .args .rows .now) (g .args .h) (g .pre .1 .1 .1) _)
 
 is-concrete-requires : tie.Need-is-concrete-requires
@@ -44,12 +47,12 @@ class-row-requires : tie.Need-class-row-requires
 class-row-requires c κs =
     let g = c .before .before .before .before .before .before .before .before .before in
     let class = operand-new (g .pre .0 .opened) _ (g .pre .1 .0) _ (g .pre .1 .1 .0) _ (is-new (c .before .before .before .before)) in
-    (g .pre .0, (class, lent-long (g .args .h) (g .args .rows .now) (g .pre .1 .1 .1)))
+    (g .pre .0, (class, lent-long (rowBytes * g .args .h) (g .args .rows .now) rowBytes (g .pre .1 .1 .1)))
 
 returns-2 : tie.Need-returns-2
 returns-2 c =
     let g = c .before .before .before .before .before .before .before .before .before .before .before .before in
-    rw (is-new (c .before .before .before .before .before .before .before), lent-back _ _ (g .args .h) (g .args .rows .now) _ (c .before .before .«class-row» .ensures))
+    rw (is-new (c .before .before .before .before .before .before .before), stacked-back _ _ (g .args .h) (g .args .rows .now) _ (c .before .before .«class-row» .ensures))
     (applied-new _ _ (g .args .rows .now) (g .args .h) (g .pre .1 .1 .1) _ (sym (c .before .before .before .before .before .«is-concrete» .ensures) ∙ c .before .before .before .before .if1 .taken))
 
 returns-3 : tie.Need-returns-3
