@@ -8,12 +8,16 @@ use mathlib.Core.List.{List, [], _∷_, List·Memᴰ}
 use lib.Dec.{ltb, eqb}
 use lib.ListN.{length, getD}
 use borrow.Author.Tests.{ltb-true, lt-ltb, eqb-true, eq-eqb}
-use Rattle.rules.specs.Model.{Model}
+use Rattle.rules.specs.Layout.{maxMethods}
+use Rattle.rules.specs.Model.{Model, modelOf}
 use Rattle.rules.specs.Lookup.{applicable, missing, select}
 use Rattle.rules.proofs.Lists.{and-left, and-right, and-both, every-mem, every-from, every-place}
 use Rattle.rules.proofs.Lookup.{applicable-candidate}
 use Rattle.rules.proofs.Selection.{MethodOf}
+use Rattle.layout.specs.declared.bundle.Bundle.{Bundle}
+use Rattle.layout.proofs.Opened.{wellformed-of}
 use Rattle.subclasses.specs.Places.{OfArity}
+use Rattle.subclasses.specs.Prepared.{Prepared}
 use Rattle.dispatch.specs.Listed.{methodOf, Listed, listed, Candidates}
 
 pub method-of : {M : Model} {f m : ℕ} → methodOf M f m ≡ true → MethodOf M f m
@@ -36,6 +40,11 @@ candidate-of {M} c m = record { bound = m .bound; arity = c .arity ∙ sym (ap (
 
 pub candidate-at : {M : Model} {f n : ℕ} {ms : List ℕ} → Candidates M f n ms → (i : ℕ) → i < length ms → OfArity M n (getD ms i 0)
 candidate-at c i l = candidate-of c (method-of (method-at (c .methods) i l))
+
+-- and its number is within the limit, so that two bytes hold it
+pub candidate-fits : {b : List ℕ} {t : Bundle} {s : List ℕ} {f n : ℕ} {ms : List ℕ} → Prepared b t s → Candidates (modelOf b) f n ms → (i : ℕ) → i < length ms
+    → getD ms i 0 < maxMethods
+candidate-fits p c i l = omega (arith, candidate-at c i l .bound, wellformed-of (p .opened) .methods-limit)
 
 -- the applicable methods of a function are methods of it
 pub applicable-listed : (M : Model) (f : ℕ) (args : List ℕ) → Listed M f (applicable M f args)

@@ -33,7 +33,7 @@ pub(crate) fn applicable(
     index: &[usize],
     f: usize,
     args: &[u8],
-    list: &mut [usize],
+    list: &mut [u16],
 ) -> usize
     requires { ⌜ Prepared (now bytes) b (now scratch) ⌝ }
     requires { ⌜ Indexed (modelOf (now bytes)) (now index) ⌝ }
@@ -50,7 +50,7 @@ pub(crate) fn applicable(
         if !applies(bytes, b, scratch, args, k) {
             continue;
         }
-        list[count] = k;
+        list[count] = k as u16;
         count += 1;
     }
     count

@@ -25,7 +25,8 @@ pub fn lookup(
     requires { ⌜ Arguments (modelOf (now bytes)) f (now args) ⌝ }
     ensures { λ r. ⌜ foundOf r ≡ lookup (modelOf (now (bytes .entry))) f (now (args .entry)) ⌝ }
 {
-    let mut list = [0usize; Bundle::METHODS];
+    // Two bytes are enough for a method, and the list is cleared for each lookup.
+    let mut list = [0u16; Bundle::METHODS];
     let count = applicable(bytes, b, scratch, index, f, args, &mut list);
     select(bytes, b, scratch, f, args.len(), &list[..count])
 }

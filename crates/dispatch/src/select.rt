@@ -39,7 +39,7 @@ fn unbeaten(
     scratch: &[u8],
     f: usize,
     n: usize,
-    list: &[usize],
+    list: &[u16],
     m: usize,
 ) -> bool
     requires { ⌜ Prepared (now bytes) b (now scratch) ⌝ }
@@ -49,7 +49,7 @@ fn unbeaten(
 {
     let mut i = 0;
     while i < list.len() {
-        let o = list[i];
+        let o = list[i] as usize;
         i += 1;
         if o == m {
             continue;
@@ -68,7 +68,7 @@ fn last_rival(
     scratch: &[u8],
     f: usize,
     n: usize,
-    list: &[usize],
+    list: &[u16],
     end: usize,
 ) -> usize
     requires { ⌜ Prepared (now bytes) b (now scratch) ⌝ }
@@ -80,7 +80,7 @@ fn last_rival(
     let mut at = end;
     loop {
         at -= 1;
-        if unbeaten(bytes, b, scratch, f, n, list, list[at]) {
+        if unbeaten(bytes, b, scratch, f, n, list, list[at] as usize) {
             return at;
         }
     }
@@ -94,7 +94,7 @@ fn first_candidate(
     scratch: &[u8],
     f: usize,
     n: usize,
-    list: &[usize],
+    list: &[u16],
 ) -> usize
     requires { ⌜ Prepared (now bytes) b (now scratch) ⌝ }
     requires { ⌜ Candidates (modelOf (now bytes)) f n (now list) ⌝ }
@@ -106,7 +106,7 @@ fn first_candidate(
     while i < list.len() {
         let k = i;
         i += 1;
-        if !as_specific(bytes, b, scratch, n, list[k], list[held]) {
+        if !as_specific(bytes, b, scratch, n, list[k] as usize, list[held] as usize) {
             continue;
         }
         held = k;
@@ -116,7 +116,7 @@ fn first_candidate(
 
 // The leader of the list (M 5.3), or else its last two rivals (M 5.5): the inner loop leaves a candidate at the first method that it is not at least as specific as. The
 // first candidate is tried before the list from its beginning; a list has no two leaders. The second rival is looked for where the search for the first ended.
-pub fn select(bytes: &[u8], b: Bundle, scratch: &[u8], f: usize, n: usize, list: &[usize]) -> Found
+pub fn select(bytes: &[u8], b: Bundle, scratch: &[u8], f: usize, n: usize, list: &[u16]) -> Found
     requires { ⌜ Prepared (now bytes) b (now scratch) ⌝ }
     requires { ⌜ Candidates (modelOf (now bytes)) f n (now list) ⌝ }
     ensures { λ r. ⌜ foundOf r ≡ select (modelOf (now (bytes .entry))) (now (list .entry)) ⌝ }
@@ -127,12 +127,12 @@ pub fn select(bytes: &[u8], b: Bundle, scratch: &[u8], f: usize, n: usize, list:
     let mut at = first_candidate(bytes, b, scratch, f, n, list);
     let mut next = 0;
     'candidates: while at < list.len() {
-        let m = list[at];
+        let m = list[at] as usize;
         at = next;
         next += 1;
         let mut j = 0;
         while j < list.len() {
-            let o = list[j];
+            let o = list[j] as usize;
             j += 1;
             if o == m {
                 continue;
@@ -144,8 +144,8 @@ pub fn select(bytes: &[u8], b: Bundle, scratch: &[u8], f: usize, n: usize, list:
         return Found::Method(m);
     }
     let last = last_rival(bytes, b, scratch, f, n, list, list.len());
-    let newest = list[last];
+    let newest = list[last] as usize;
     let before = last_rival(bytes, b, scratch, f, n, list, last);
-    let next = list[before];
+    let next = list[before] as usize;
     Found::Ambiguous(newest, next)
 }

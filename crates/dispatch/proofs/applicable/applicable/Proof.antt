@@ -89,6 +89,7 @@ applicable-spec =
     (λ c. omega (arith, room (c .before .before .before)))
     (λ c. omega (arith, room (c .before .before .before)))
     (λ c. omega (arith, room (c .before .before .before)))
+    (λ c. omega (arith, room (c .before .before .before)))
     (λ c. omega (arith, rises (c .before .before .before)))
     loop-again-2
     (λ c. c .before .loop .inv .keeping .same)

@@ -3,7 +3,7 @@
 use Prim.Native.Nat.{_-_, _≤_, _<_}
 use native.Mathlib.Omega.{arith}
 use lib.ListN.{length}
-use Rattle.dispatch.proofs.Listed.{candidate-at}
+use Rattle.dispatch.proofs.Listed.{candidate-at, candidate-fits}
 use Rattle.dispatch.proofs.select.first_candidate.Statement.{statement}
 use Rattle.dispatch.proofs.select.first_candidate.Tie as tie
 
@@ -30,8 +30,10 @@ first-candidate-spec =
     (λ c. omega arith)
     (λ c. omega arith)
     (λ c. omega arith)
+    (λ c. let p = c .before .before .before .before .before .before .pre in omega (arith, candidate-fits (p .0) (p .1 .0) (c .before .before .loop .i) (c .before .loop-test .taken)))
     (λ c. omega arith)
     (λ c. omega arith)
+    (λ c. let p = c .before .before .before .before .before .before .before .pre in omega (arith, candidate-fits (p .0) (p .1 .0) (c .before .before .before .loop .held) (c .before .before .before .loop .inv .0)))
     as-specific-requires
     (λ c. omega arith)
     (λ c. (omega arith, omega arith))

@@ -1,11 +1,11 @@
 -- `dispatch::select::last_rival` meets its contract. The loop's invariant: the rivals before `at` are those before the end, so there is one.
 -- Assumes nothing.
-use Prim.Native.Nat.{_≤_, _<_}
+use Prim.Native.Nat.{_-_, _≤_, _<_}
 use native.Mathlib.Omega.{arith}
 use mathlib.Core.Path.{_≡_, refl, sym, _∙_}
 use Rattle.rules.specs.Model.{modelOf}
 use Rattle.dispatch.specs.Rivals.{rivalsBefore}
-use Rattle.dispatch.proofs.Listed.{candidate-at}
+use Rattle.dispatch.proofs.Listed.{candidate-at, candidate-fits}
 use Rattle.dispatch.proofs.Rivals.{before-some, before-hit, before-miss}
 use Rattle.dispatch.proofs.select.last_rival.Statement.{statement}
 use Rattle.dispatch.proofs.select.last_rival.Tie as tie
@@ -49,6 +49,7 @@ last-rival-spec =
     (λ c. omega arith)
     (λ c. omega arith)
     (λ c. omega arith)
+    (λ c. let p = c .before .before .before .before .before .pre in omega (arith, candidate-fits (p .0) (p .1 .0) (c .before .loop .at - 1) (omega arith)))
     unbeaten-requires
     returns
     (λ c. omega arith)

@@ -15,7 +15,7 @@ use Rattle.rules.proofs.Lists.{or-left, or-right, or-none, getD-mem, none-place
 use Rattle.rules.proofs.Selection.{leading-selected}
 use Rattle.layout.proofs.Opened.{wellformed-of}
 use Rattle.dispatch.specs.Found.{foundOf}
-use Rattle.dispatch.proofs.Listed.{each-method, candidate-at, empty-selected}
+use Rattle.dispatch.proofs.Listed.{each-method, candidate-at, candidate-fits, empty-selected}
 use Rattle.dispatch.proofs.Rivals.{Unled, last-there, next-there, both-named}
 use Rattle.dispatch.proofs.select.select.Statement.{statement}
 use Rattle.dispatch.proofs.select.select.Tie as tie
@@ -113,6 +113,17 @@ last-rival-requires-2 c κs =
     let last = c .before .last-rival .ensures in
     (p .0, (p .1, (omega (arith, last .within), next-there (unled (c .before .before)) last)))
 
+newest-fits : tie.Need-cast-newest Inv-loop μ-loop Inv-candidates μ-candidates
+newest-fits c =
+    let p = c .before .before .before .before .before .before .before .before .before .pre in
+    omega (arith, candidate-fits (p .0) (p .1) (c .before .last-rival .result) (omega (arith, c .before .last-rival .ensures .within)))
+
+next-fits : tie.Need-cast-next Inv-loop μ-loop Inv-candidates μ-candidates
+next-fits c =
+    let p = c .before .before .before .before .before .before .before .before .before .before .before .pre in
+    let within = c .before .before .before .last-rival .ensures .within in
+    omega (arith, candidate-fits (p .0) (p .1) (c .before .last-rival2 .result) (omega (arith, within, c .before .last-rival2 .ensures .within)))
+
 returns-3 : tie.Need-returns-3 Inv-loop μ-loop Inv-candidates μ-candidates
 unfolding foundOf
 returns-3 c =
@@ -132,10 +143,12 @@ select-spec =
     candidates-holds
     (λ c. omega arith)
     (λ c. omega arith)
+    (λ c. let p = c .before .before .before .before .before .before .before .before .pre in omega (arith, candidate-fits (p .0) (p .1) (c .before .before .candidates .at) (c .before .candidates-test .taken)))
     (λ c. omega arith)
     (λ c. (omega arith, below-none _))
     (λ c. omega arith)
     (λ c. omega arith)
+    (λ c. let p = c .before .before .before .before .before .before .before .before .before .before .before .pre in omega (arith, candidate-fits (p .0) (p .1) (c .before .before .loop .j) (c .before .loop-test .taken)))
     (λ c. omega arith)
     (λ c. omega arith)
     loop-again
@@ -148,7 +161,9 @@ select-spec =
     last-rival-requires
     (λ c. omega (arith, c .last-rival .ensures .within))
     (λ c. omega (arith, c .before .last-rival .ensures .within))
+    newest-fits
     last-rival-requires-2
     (λ c. omega (arith, c .before .before .last-rival .ensures .within, c .last-rival2 .ensures .within))
     (λ c. omega (arith, c .before .before .before .last-rival .ensures .within, c .before .last-rival2 .ensures .within))
+    next-fits
     returns-3)

@@ -11,7 +11,7 @@ use borrow.Author.Tests.{eq-eqb, ne-eqb}
 use Rattle.rules.specs.Model.{modelOf}
 use Rattle.rules.specs.Lookup.{asSpecific, unbeaten}
 use Rattle.rules.proofs.Lists.{or-left, or-right, or-none, every-places, every-broken}
-use Rattle.dispatch.proofs.Listed.{candidate-at}
+use Rattle.dispatch.proofs.Listed.{candidate-at, candidate-fits}
 use Rattle.dispatch.proofs.select.unbeaten.Statement.{statement}
 use Rattle.dispatch.proofs.select.unbeaten.Tie as tie
 
@@ -59,6 +59,7 @@ unbeaten-spec =
     (λ c. (omega arith, below-none _))
     (λ c. omega arith)
     (λ c. omega arith)
+    (λ c. let p = c .before .before .before .before .before .before .pre in omega (arith, candidate-fits (p .0) (p .1 .0) (c .before .before .loop .i) (c .before .loop-test .taken)))
     (λ c. omega arith)
     (λ c. omega arith)
     loop-again
