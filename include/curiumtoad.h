@@ -18,8 +18,9 @@
  * passed.
  *
  * scratch holds at least CURIUMTOAD_SCRATCH_BYTES, row at least CURIUMTOAD_ROW_BYTES; with fewer the call is refused, by 19 or 20. What they hold before a
- * call does not matter. 1 to 9 and 19 leave the scratch as it was; else byte 128 * a + b is 1 where class a is under class b, and 0 otherwise, for a and b
- * below 128. Bytes past the first 16,384, and past the first 128 of the row, are never touched.
+ * call does not matter. 1 to 9 and 19 leave the scratch as it was; else it has a bit for each a and b below 128, which is 1 where class a is under class b,
+ * and 0 otherwise: bit b % 8 of byte 16 * a + b / 8, where bit 0 is the lowest. Bytes past the first 2,048, and past the first 128 of the row, are never
+ * touched.
  *
  * text is the buffer of a listing or of a line of a chart; where it is too short for that the call is refused, by 20 or 23. Every refusal leaves it as it
  * was, and so are the bytes after what is written, which no zero byte ends.
@@ -29,7 +30,7 @@
  * - A pointer with a length is to that many bytes, which the caller may read, and write where there is no const. It is not null and points to some
  *   object even where the length is 0. values is to CURIUMTOAD_VALUE_COUNT aligned numbers.
  * - bundle, scratch, row, text and values do not overlap, and no one else writes them during the call.
- * - The stack has CURIUMTOAD_STACK_BYTES left. A call uses less than 105 kilobytes of them, a listing the most. This is measured and not proved.
+ * - The stack has CURIUMTOAD_STACK_BYTES left. A call uses less than 85 kilobytes of them, a listing the most. This is measured and not proved.
  *
  * Nothing is kept between calls, and nothing is allocated. So any number of threads may call at once, each with its own scratch, row, text and values; a
  * bundle may be shared as long as no one writes it.
@@ -41,10 +42,10 @@
 #include <stdint.h>
 
 /* Raised by each change of the bundle's layout, of what scratch, row or values hold or how large they are, or of the arguments of a function. */
-#define CURIUMTOAD_VERSION 2
+#define CURIUMTOAD_VERSION 3
 
 #define CURIUMTOAD_BUNDLE_BYTES 65535  /* the most that a bundle may have */
-#define CURIUMTOAD_SCRATCH_BYTES 16384
+#define CURIUMTOAD_SCRATCH_BYTES 2048
 #define CURIUMTOAD_ROW_BYTES 128
 #define CURIUMTOAD_TEXT_BYTES 512      /* enough for the listing of any bundle */
 #define CURIUMTOAD_LINE_BYTES 645      /* enough for any line of a chart */

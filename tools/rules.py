@@ -1,12 +1,13 @@
-"""The rules for opening, the body view and reader, ancestry, lookup, charts and arguments known only by upper classes, and for which sends signatures
-cover, written without the library."""
+"""The rules for opening, the body view and reader, the scratch, ancestry, lookup, charts and arguments known only by upper classes, and for which sends
+signatures cover, written without the library."""
 import functools
 import itertools
 
 LONGEST = 65535
 CLASSES, FUNCTIONS, SIGNATURES, METHODS, PLACES = 128, 64, 256, 512, 3
 ABSENT, SHORT, SHORT_ROW, NOT_BINARY, NO_LINE, SHORT_BUFFER, NONE_CONCRETE = range(18, 25)
-MATRIX = 16384
+# The bytes of the subclass matrix, and of each of its rows.
+MATRIX, MATRIX_ROW = 2048, 16
 # What a chart shows where lookup gives one of these numbers.
 MARKS = {10: "-", 11: "*"}
 # The first value of what is said where only upper classes are known.
@@ -141,6 +142,16 @@ def above(bundle):
     for k, record in enumerate(records(bundle[class_at:][:length], 6)):
         sets.append({k}.union(*(sets[p] for p in bundle[parent_at + word(record, 2):][:word(record, 4)])))
     return sets
+
+
+def matrix_rows(bundle):
+    """for each class its row of the subclass matrix: a bit for each class that it is under, the lowest first"""
+    return [sum(1 << c for c in own).to_bytes(MATRIX_ROW, "little") for own in above(bundle)]
+
+
+def matrix(bundle):
+    """the subclass matrix, as an opened bundle has it in the scratch: the rows of absent classes are 0"""
+    return b"".join(matrix_rows(bundle)).ljust(MATRIX, b"\0")
 
 
 def ancestry(bundle, a, b):
@@ -285,9 +296,14 @@ def rough(bundle, function, *uppers):
 ASKED = {"ancestry": ancestry, "lookup": lookup, "chart": chart, "rough": rough}
 
 
-def asked(bundle, scratch, kind, *numbers):
-    """the answer of a call that is lent so much scratch"""
+def refusal(bundle, scratch):
+    """number and values where the bundle does not open or a scratch of so many bytes is too short, and else nothing"""
     number, values = opening(bundle)
     if number:
         return number, values
-    return ASKED[kind](bundle, *numbers) if scratch >= MATRIX else (SHORT, [])
+    return (SHORT, []) if scratch < MATRIX else None
+
+
+def asked(bundle, scratch, kind, *numbers):
+    """the answer of a call that is lent so much scratch"""
+    return refusal(bundle, scratch) or ASKED[kind](bundle, *numbers)

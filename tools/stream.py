@@ -2,12 +2,12 @@
 import sys
 from typing import NamedTuple
 
-from rules import SHORT, above, opening
+from rules import CLASSES, MATRIX_ROW, SHORT, matrix_rows, opening
 
 # The first value of a run that no number stops.
 ENDS = {"value": 0, "spent": 1, "deep": 2}
 VALUES = 8
-# The scratch of a call is longer than the matrix, so that a byte written past it shows.
+# The scratch of a call is longer than the matrix, also than one of a byte a pair, so that a byte written past it shows.
 SCRATCH = 17000
 # So is the row longer than the longest line of a chart, and than a type.
 ROW = 660
@@ -45,6 +45,11 @@ def ended(end, values, steps):
     return reply(number, [*values, *[0] * (VALUES - 1 - len(values)), steps])
 
 
+def typed(classes):
+    """the reply to a send of this type: 1 in the row for each of its classes, 0 for the others"""
+    return reply(0, written=bytes(c in classes for c in range(max(classes) + 1)), zeros_to=CLASSES)
+
+
 def grouped(n):
     """a number in groups of seven bits, the highest first; 128 is added to all but the last"""
     groups = [n % 128]
@@ -61,11 +66,6 @@ def block(*numbers):
     return bytes([len(content)]) + content
 
 
-def bits(sets):
-    """a row for each class, a bit for each class that it may be under"""
-    return b"".join(sum(1 << c for c in row).to_bytes((len(sets) + 7) // 8, "little") for row in sets)
-
-
 def fills(call, answer):
     """whether the call leaves the matrix in the scratch"""
     return call.entry in SCRATCHED and answer.number not in (*range(1, 10), SHORT)
@@ -79,8 +79,8 @@ def call_bytes(call, answer):
 
 
 def bundle_bytes(bundle, calls):
-    sets = [] if opening(bundle)[0] else above(bundle)
-    return block(len(bundle), len(sets), len(calls)) + bundle + bits(sets) + b"".join(calls)
+    rows = [] if opening(bundle)[0] else matrix_rows(bundle)
+    return block(len(bundle), len(rows), len(calls)) + bundle + b"".join(rows) + b"".join(calls)
 
 
 def stream_of(cases):
@@ -116,7 +116,7 @@ def one(stream, wanted):
     while at < len(stream):
         head, start = taken_block(stream, at)
         length, classes, calls = (field(head, k) for k in range(3))
-        at = start + length + classes * ((classes + 7) // 8)
+        at = start + length + MATRIX_ROW * classes
         shared = stream[start:at]
         for _ in range(calls):
             asked_for, middle = taken_block(stream, at)

@@ -10,11 +10,11 @@ usage: tools/vectors.py FOLDER          write them, from the vectors of FOLDER (
 Vectors in a folder whose name is two digits follow the rules with the requests up to that number, those in any other folder the rules before the first
 request. Answers that a later request changed are brought to the rules as they stand where vectors are read (earlier.py).
 
-The rules for opening, ancestry, lookup, charts and arguments known only by upper classes stand a second time in rules.py. They give the answers for
-bundles that no vector has, and every vector is held to them, so that an answer on which the two differ is never passed on; so are the answers worked
-out by hand in uppers.py. The other answers, of runs, checks, send types and witnesses, are taken from the vectors and the rules' own cases; those for
-bundles made here are worked out by hand from its rules. The answers of accepted runs follow from those of the run and the check and from which
-signatures cover the send.
+The rules for opening, the scratch, ancestry, lookup, charts and arguments known only by upper classes stand a second time in rules.py. They give the
+answers for bundles that no vector has, and every vector is held to them, so that an answer or a byte of scratch on which the two differ is never passed
+on; so are the answers and bytes that uppers.py and matrices.py have worked out apart. The other answers, of runs, checks, send types and witnesses, are taken
+from the vectors and the rules' own cases; those for bundles made here are worked out by hand from its rules. The answers of accepted runs follow from
+those of the run and the check and from which signatures cover the send.
 """
 import itertools
 import math
@@ -25,14 +25,15 @@ ROOT = pathlib.Path(__file__).resolve().parent.parent
 sys.dont_write_bytecode = True
 sys.path.insert(0, str(ROOT / "bundles"))
 import make  # noqa: E402
+import matrices  # noqa: E402
 import uppers  # noqa: E402
 from earlier import entries, write_current  # noqa: E402
 from made import write_or_check  # noqa: E402
 from make import applying, chain, flat, of_methods  # noqa: E402
 from rules import (  # noqa: E402
     ABSENT, ASKED, CLASSES, FUNCTIONS, LONGEST, MATRIX, MAY_FAIL, METHODS, ONE, PLACES, SEVERAL, SHORT, SHORT_ROW, SIGNATURES, arity_of, asked, below,
-    chart_line, chart_lines, instruction, is_covered, lookup, opening, reading, refused, spans, view)
-from stream import ROW, SCRATCH, SCRATCHED, Call, ended, one, reply, stream_of, tally  # noqa: E402
+    chart_line, chart_lines, instruction, is_covered, lookup, matrix, opening, reading, refusal, refused, spans, view)
+from stream import ROW, SCRATCH, SCRATCHED, Call, ended, fills, one, reply, stream_of, tally, typed  # noqa: E402
 
 MOST = 2**32 - 1
 
@@ -363,7 +364,7 @@ def held(bundle, answer, second):
 
 
 # The later parts of the rules that have vectors of their own, beside those of the folder itself.
-LATER = ["requests/01", "requests/02", "requests/03", "requests/04", "requests/05"]
+LATER = ["requests/01", "requests/02", "requests/03", "requests/04", "requests/05", "requests/06"]
 
 
 def vectors(folder, name):
@@ -666,9 +667,7 @@ def send_type_cases(folder):
         if row < CLASSES:
             # 20 comes before 18 and 16.
             return bundle, call, reply(SHORT_ROW)
-        if number:
-            return bundle, call, reply(number)
-        return bundle, call, reply(0, written=bytes(c in classes for c in range(max(classes) + 1)), zeros_to=CLASSES)
+        return bundle, call, reply(number) if number else typed(classes)
 
     for entry, bundle in vectors(folder, "sendtype.jsonl"):
         questions = [(call["sendtype"], call["answer"]["number"], call["row"]) for call in entry["calls"]]
@@ -829,6 +828,24 @@ def listing_cases(folder):
         yield bundle, Call("listing", row=len(text) - 1), reply(SHORT_ROW)
 
 
+def scratch_cases(folder):
+    """how long the scratch is and what is left in it"""
+    for entry, bundle in vectors(folder, "scratch.jsonl"):
+        for check in entry["calls"]:
+            [length] = check["check"]
+            # The program has no longer scratch to lend.
+            call, answer = Call("check", scratch=min(length, SCRATCH)), found(check["answer"])
+            left = [[at, byte] for at, byte in enumerate(matrix(bundle)) if byte] if fills(call, answer) else None
+            held(bundle, check["scratch"], left)
+            yield bundle, call, answer
+    for bundle, place, part in matrices.parts():
+        held(bundle, part, matrix(bundle)[place])
+    for bundle, call, answer in matrices.cases():
+        if call.entry in ["ancestry", "lookup", "rough"]:
+            held(bundle, answer, reply(*asked(bundle, call.scratch, call.entry, *call.numbers)))
+        yield bundle, call, answer
+
+
 def accepted_runs(bundle, calls):
     """(call, reply) for each run of the bundle, where the verdict of its check is known"""
     verdict = calls.get(Call("check", scratch=SCRATCH))
@@ -854,10 +871,11 @@ def all_cases(folder):
     for bundle, call, answer in itertools.chain.from_iterable(
         made(folder) for made in [
             opening_cases, view_cases, reader_cases, lookup_cases, send_type_cases, check_cases, witness_cases, run_cases, listing_cases,
-            chart_cases, rough_cases]):
-        opened = opening(bundle)
-        if call.entry in SCRATCHED and (opened[0] or 0 < answer.number < 10):
-            held(bundle, answer, reply(*opened))
+            chart_cases, rough_cases, scratch_cases]):
+        if call.entry in SCRATCHED:
+            refused_by = refusal(bundle, call.scratch)
+            if refused_by or not fills(call, answer):
+                held(bundle, answer, refused_by and reply(*refused_by))
         calls = cases.setdefault(bundle, {})
         repeats += call in calls
         held(bundle, calls.setdefault(call, answer), answer)

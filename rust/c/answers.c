@@ -1,4 +1,5 @@
-/* Makes each call from C on sample bundles and holds the header's names to the answers: numbers, places of values, endings and reasons.
+/* Makes each call from C on sample bundles and holds the header's names to the answers: numbers, places of values, endings and reasons; and the scratch to
+ * what the header says of its bits.
  *
  * usage: answers FOLDER
  */
@@ -89,6 +90,35 @@ static void sends(void)
     use("chart-5");
     HOLDS(curiumtoad_send_type(BUNDLE, SCRATCH, row, sizeof row, 0, 2, 4, 0, v) == CURIUMTOAD_OK && row[5] == 1 && row[6] == 0 && row[7] == 1);
     HOLDS(curiumtoad_send_type(BUNDLE, SCRATCH, row, sizeof row - 1, 0, 2, 4, 0, v) == CURIUMTOAD_SHORT_BUFFER);
+}
+
+/* Whether class a is under class b, by the scratch after a call. */
+static int under(const uint8_t *matrix, size_t a, size_t b)
+{
+    return matrix[16 * a + b / 8] >> b % 8 & 1;
+}
+
+/* A call writes the first 2,048 bytes of its scratch, whatever they hold before, and none behind them. */
+static void matrices(uint8_t before)
+{
+    static uint8_t lent[2049], untouched[sizeof lent];
+    memset(untouched, before, sizeof untouched);
+    memset(lent, before, sizeof lent);
+    use("chart-3");
+    HOLDS(curiumtoad_ancestry(BUNDLE, lent, 2047, 4, 3, v) == CURIUMTOAD_SHORT_SCRATCH);
+    HOLDS(memcmp(lent, untouched, sizeof lent) == 0);
+    HOLDS(curiumtoad_ancestry(BUNDLE, lent, 2048, 4, 3, v) == CURIUMTOAD_OK);
+    /* Class 4 is under 0, 3 and 4; there are no classes 8 and 127. */
+    HOLDS(under(lent, 4, 3) == 1 && under(lent, 3, 4) == 0 && lent[64] == 0x19 && lent[65] == 0);
+    HOLDS(lent[128] == 0 && lent[2047] == 0 && lent[2048] == before);
+    /* Class 11 is under 0, 9, 10 and 11. */
+    use("102-methods");
+    HOLDS(curiumtoad_check(BUNDLE, lent, sizeof lent, v) == CURIUMTOAD_OK);
+    HOLDS(under(lent, 11, 9) == 1 && under(lent, 9, 11) == 0 && lent[176] == 0x01 && lent[177] == 0x0e);
+    /* Each class but 0 is under 0 and itself, 126 and 127 too. */
+    use("128-classes");
+    HOLDS(curiumtoad_check(BUNDLE, lent, sizeof lent, v) == CURIUMTOAD_OK);
+    HOLDS(lent[2016] == 0x01 && lent[2031] == 0x40 && lent[2032] == 0x01 && lent[2047] == 0x80 && lent[2048] == before);
 }
 
 static void rough_sends(void)
@@ -200,6 +230,8 @@ int main(int argc, char **argv)
     }
     openings();
     sends();
+    matrices(0x00);
+    matrices(0xff);
     rough_sends();
     findings();
     runs();

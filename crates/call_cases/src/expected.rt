@@ -1,6 +1,7 @@
 // What a call has to answer and to leave.
 use crate::block::NUMBERS;
 use crate::block::read_first;
+use crate::lent::clear;
 use reply::Reply;
 
 // The reply, whether the matrix is in the scratch, and what is written to the row: bytes of the input, then zeros up to a place.
@@ -9,17 +10,6 @@ pub(crate) struct Expected {
     pub(crate) fills: bool,
     written: usize,
     zeros_to: usize,
-}
-
-fn clear(row: &mut [u8], from: usize, to: usize) {
-    let mut k = from;
-    while k < row.len() {
-        if k >= to {
-            return;
-        }
-        row[k] = 0;
-        k += 1;
-    }
 }
 
 impl Expected {

@@ -18,6 +18,7 @@ use bytes::copy;
 use call::Call;
 use expected::Expected;
 use lent::SCRATCH;
+use lent::complement;
 use lent::fill;
 use lent::read_matrix;
 use lent::unwritten_row;
@@ -148,7 +149,7 @@ fn run_calls(
 // Makes the calls on the next bundle, and answers whether the input had it whole.
 fn run_bundle(
     space: &mut [u8],
-    unwritten: &[u8; SCRATCH],
+    unwritten: &mut [u8; SCRATCH],
     matrix: &mut [u8; SCRATCH],
     scratch: &mut [u8; SCRATCH],
     tallies: &mut [u64; TALLIES],
@@ -168,6 +169,7 @@ fn run_bundle(
     if !read_matrix(matrix, numbers[1]) {
         return false;
     }
+    complement(unwritten, matrix);
     run_calls(
         &space[..len],
         unwritten,
@@ -182,7 +184,7 @@ fn run_bundle(
 // A proved loop has to end, and nothing says that the input does. So the loop counts its turns down, from a number that no run uses up.
 fn run_all(
     space: &mut [u8],
-    unwritten: &[u8; SCRATCH],
+    unwritten: &mut [u8; SCRATCH],
     matrix: &mut [u8; SCRATCH],
     scratch: &mut [u8; SCRATCH],
     tallies: &mut [u64; TALLIES],
@@ -206,7 +208,7 @@ fn main() {
     fill(&mut matrix);
     run_all(
         &mut space,
-        &unwritten,
+        &mut unwritten,
         &mut matrix,
         &mut scratch,
         &mut tallies,

@@ -1,5 +1,5 @@
 // Makes bundles and compares the library with the second implementation on them: every function with every tuple of classes, abstract ones too, and
-// every pair of classes; in large bundles only the tuples of a stride. The scratch is compared once in each bundle.
+// every pair of classes; in large bundles only the tuples of a stride. The scratch is compared twice in each bundle.
 mod ancestry;
 mod answer;
 mod generator;
@@ -19,7 +19,6 @@ use generator::draw;
 use made::Plan;
 use made::make;
 use matrix::SCRATCH;
-use matrix::UNWRITTEN;
 use matrix::is_matrix;
 use print::print;
 use print::print_count;
@@ -226,12 +225,12 @@ fn compare_functions(bundle: &[u8], scratch: &mut [u8], totals: Totals) -> Total
     totals
 }
 
-// A scratch that differs counts as a call that does.
-fn compare_scratch(bundle: &[u8], totals: Totals) -> Totals {
+// Compares a scratch that held this byte everywhere. One that differs counts as a call that does.
+fn compare_scratch(bundle: &[u8], filler: u8, totals: Totals) -> Totals {
     let question = question_of(false, 0, 0);
-    let mut scratch = [UNWRITTEN; SCRATCH];
+    let mut scratch = [filler; SCRATCH];
     let got = question.answer(bundle, &mut scratch);
-    let is_same = is_matrix(bundle, &scratch);
+    let is_same = is_matrix(bundle, &scratch, filler);
     if !is_same {
         print_first(
             totals,
@@ -255,7 +254,9 @@ fn compare_bundle(bundle: &[u8], scratch: &mut [u8], totals: Totals) -> Totals {
     if !opens(bundle) {
         return totals.with_bundle(false);
     }
-    let mut totals = compare_scratch(bundle, totals);
+    // A byte that is not written cannot be right both times.
+    let mut totals = compare_scratch(bundle, 0, totals);
+    totals = compare_scratch(bundle, 255, totals);
     totals = compare_tuples(bundle, scratch, false, 0, 2, totals);
     totals = compare_functions(bundle, scratch, totals);
     totals.with_bundle(true)
@@ -311,6 +312,6 @@ fn compare_all(space: &mut [u8], scratch: &mut [u8]) -> Totals {
 
 fn main() {
     let mut space = io::large_buffer();
-    let mut scratch = [UNWRITTEN; SCRATCH];
+    let mut scratch = [0u8; SCRATCH];
     compare_all(&mut space, &mut scratch).print();
 }

@@ -4,14 +4,15 @@ use crate::ancestry::all_above;
 use crate::record::class_count;
 ghost use Prim.Native.Nat.{_<_};
 
-// The bytes of the matrix.
-const BYTES: usize = 16384;
-// A scratch that is longer than the matrix, so that a call can write past it.
-pub(crate) const SCRATCH: usize = 17000;
-// Each byte of it before a call. A matrix has only 0 and 1.
-pub(crate) const UNWRITTEN: u8 = 2;
+// The bytes of the matrix, and of each of its rows.
+const BYTES: usize = 2048;
 
-// Row `class` of the matrix: zeros where the class is absent.
+const ROW: usize = 16;
+
+// A scratch that is longer than the matrix, also than one of a byte a pair, so that a call can write past it.
+pub(crate) const SCRATCH: usize = 17000;
+
+// For each class whether the given one is under it: all 0 where that is absent.
 fn row(bundle: &[u8], class: usize) -> [u8; 128] {
     if class < class_count(bundle) {
         return all_above(bundle, class);
@@ -19,30 +20,40 @@ fn row(bundle: &[u8], class: usize) -> [u8; 128] {
     [0u8; 128]
 }
 
-// Whether the bytes of a row are those that the parents of its class give.
-fn is_row(bundle: &[u8], scratch: &[u8], class: usize) -> bool
+// The bit of the matrix for two classes.
+fn bit(scratch: &[u8; SCRATCH], class: usize, other: usize) -> u8
     requires { ⌜ class < 128 ⌝ }
+    requires { ⌜ other < 128 ⌝ }
 {
-    let start = CLASSES * class;
-    let end = start + CLASSES;
-    if end > scratch.len() {
-        return false;
-    }
-    let expected = row(bundle, class);
-    check::same(&scratch[start..end], &expected)
+    (scratch[ROW * class + other / 8] >> (other % 8)) & 1
 }
 
-// Whether no byte past the matrix has been written.
-fn is_unwritten(scratch: &[u8]) -> bool {
+// Whether the bits of a row are those that the parents of its class give.
+fn is_row(bundle: &[u8], scratch: &[u8; SCRATCH], class: usize) -> bool
+    requires { ⌜ class < 128 ⌝ }
+{
+    let expected = row(bundle, class);
+    let mut other = 0;
+    while other < CLASSES {
+        if bit(scratch, class, other) != expected[other] {
+            return false;
+        }
+        other += 1;
+    }
+    true
+}
+
+// Whether every byte past the matrix is the one that stood there before the call.
+fn is_unwritten(scratch: &[u8], filler: u8) -> bool {
     if scratch.len() < BYTES {
         return false;
     }
-    let expected = [UNWRITTEN; SCRATCH - BYTES];
+    let expected = [filler; SCRATCH - BYTES];
     check::same(&scratch[BYTES..], &expected)
 }
 
-// Whether the scratch begins with the matrix of the bundle, and nothing else of it has been written.
-pub(crate) fn is_matrix(bundle: &[u8], scratch: &[u8]) -> bool {
+// Whether a scratch that held this byte everywhere begins with the matrix of the bundle, and nothing else of it has been written.
+pub(crate) fn is_matrix(bundle: &[u8], scratch: &[u8; SCRATCH], filler: u8) -> bool {
     let mut class = 0;
     while class < CLASSES {
         if !is_row(bundle, scratch, class) {
@@ -50,5 +61,5 @@ pub(crate) fn is_matrix(bundle: &[u8], scratch: &[u8]) -> bool {
         }
         class += 1;
     }
-    is_unwritten(scratch)
+    is_unwritten(scratch, filler)
 }

@@ -5,7 +5,7 @@ use native.Mathlib.Nat.{not-suc-le-zero, le-of-suc-le-suc, eq-or-lt-of-le}
 use native.Mathlib.Numerals.{add-one}
 use native.Mathlib.Omega.{arith}
 use mathlib.Core.Path.{_≡_, refl, sym, ap, ap₂, subst, _∙_}
-use mathlib.Core.Bool.{Bool, true, false, _&&_, _||_, false≢true, and-true, and-assoc}
+use mathlib.Core.Bool.{Bool, true, false, _&&_, _||_, false≢true, and-true, and-assoc, or-false, or-assoc}
 use mathlib.Core.Logic.{_⊎_, inl, inr}
 use mathlib.Core.List.{List, [], _∷_, _++_, append-nil, reverse, reverseAux, reverse-cons, reverse-reverse, List·Memᴰ, List·Memᴰ·head, List·Memᴰ·tail, Memᴰ·append-left, Memᴰ·append-right, List·Memᴰ·append-cases, List·Memᴰ·cases-cons, List·Memᴰ·not-nil, List·Memᴰ·eq-of-singleton}
 use mathlib.Core.Option.{Option, none, some}
@@ -253,6 +253,20 @@ module _ {A : Type 0} where
   unfolding first
   none-places p [] d h = refl
   none-places p (x ∷ xs) d h = first-miss p x xs (h 0 (omega arith)) ∙ none-places p xs d (λ i r. h (suc i) (omega (arith, r)))
+
+  pub any-agree : (p q : A → Bool) (xs : List A) → ((x : A) → List·Memᴰ x xs → p x ≡ q x) → any p xs ≡ any q xs
+  unfolding any
+  any-agree p q [] h = refl
+  any-agree p q (x ∷ xs) h = ap₂ _||_ (h x (List·Memᴰ·head refl)) (any-agree p q xs (λ y m. h y (List·Memᴰ·tail m)))
+
+  any-snoc : (p : A → Bool) (xs : List A) (x : A) → any p (xs ++ (x ∷ [])) ≡ (any p xs || p x)
+  unfolding any
+  any-snoc p [] x = or-false (p x)
+  any-snoc p (y ∷ ys) x = ap (λ (t : Bool). p y || t) (any-snoc p ys x) ∙ sym (or-assoc (p y) (any p ys) (p x))
+
+  -- whether one of the first elements passes, with one more
+  pub any-take : (p : A → Bool) (xs : List A) (d : A) (i : ℕ) → i < length xs → any p (take (i + 1) xs) ≡ (any p (take i xs) || p (getD xs i d))
+  any-take p xs d i h = rw (add-one i, take-suc xs i d h) (any-snoc p (take i xs) (getD xs i d))
 
   -- what is kept of the first elements, with one more
   pub keep-take-hit : (p : A → Bool) (xs : List A) (d : A) (i : ℕ) → i < length xs → p (getD xs i d) ≡ true

@@ -2,11 +2,12 @@
 -- Assumes nothing.
 use Prim.Native.Nat.{ℕ, zero, suc, _+_, _-_, _≤_, _<_}
 use native.Mathlib.Omega.{arith}
+use native.Mathlib.Nat.{add-zero}
 use native.Mathlib.Numerals.{add-one}
 use mathlib.Core.Path.{_≡_, refl, sym, ap, _∙_}
-use mathlib.Core.List.{List, [], _∷_, _++_, map, append-nil, List·Memᴰ, List·Memᴰ·head, List·Memᴰ·tail}
+use mathlib.Core.List.{List, [], _∷_, _++_, map, append-assoc, append-nil, List·Memᴰ, List·Memᴰ·head, List·Memᴰ·tail}
 use lib.ListN.{length, getD, take, drop, set, length-append, length-drop, length-map, drop-of-length-le, List·getD-append}
-use lib.Seq.{take-all, drop-at, drop-cons, set-at, getD-append-add, getD-drop, append-snoc}
+use lib.Seq.{take-all, take-at, drop-at, drop-drop, drop-cons, set-at, getD-append-add, getD-drop, append-snoc}
 use borrow.Rule.Slice.PartMut.{midOf, putMid}
 use Rattle.rules.specs.Bounded.{upto}
 use Rattle.rules.specs.Calls.{overwrite}
@@ -66,6 +67,21 @@ pub overwrite-twice : (n : ℕ) (f g : ℕ → ℕ) (old : List ℕ) → overwri
 unfolding overwrite
 overwrite-twice n f g old = rw (drop-at (map g (upto n)) (drop n old) n (map-upto g n))
 
+-- what is written at a place after what is written before it
+overwrite-append : (at n : ℕ) (f : ℕ → ℕ) (old : List ℕ)
+    → take at (overwrite at f old) ++ overwrite n (λ j. f (at + j)) (drop at (overwrite at f old)) ≡ overwrite (at + n) f old
+unfolding overwrite upto
+overwrite-append at n f old =
+    rw (take-at (map f (upto at)) (drop at old) at (map-upto f at), drop-at (map f (upto at)) (drop at old) at (map-upto f at), drop-drop)
+    (sym (append-assoc (map f (upto at)) (map (λ j. f (at + j)) (upto n)) (drop (at + n) old)) ∙ ap (λ (xs : List ℕ). xs ++ drop (at + n) old) (split n))
+  where
+    split : (n : ℕ) → map f (upto at) ++ map (λ j. f (at + j)) (upto n) ≡ map f (upto (at + n))
+    split zero = append-nil (map f (upto at)) ∙ ap (λ (k : ℕ). map f (upto k)) (sym (add-zero at))
+    split (suc n) =
+        let e : at + suc n ≡ suc (at + n) = omega arith in
+        rw (e, map-snoc (λ j. f (at + j)) (upto n) n, map-snoc f (upto (at + n)) (at + n))
+        (sym (append-assoc (map f (upto at)) (map (λ j. f (at + j)) (upto n)) (f (at + n) ∷ [])) ∙ ap (λ (xs : List ℕ). xs ++ (f (at + n) ∷ [])) (split n))
+
 -- A part from a place on, lent, written over from its first byte on, and given back.
 module _ (at : ℕ) (old : List ℕ) where
   pub lent-part : midOf at (length old - at) old ≡ drop at old
@@ -77,3 +93,12 @@ module _ (at : ℕ) (old : List ℕ) where
   pub lent-back : (n : ℕ) (f : ℕ → ℕ) (part : List ℕ) → part ≡ overwrite n f (midOf at (length old - at) old)
       → putMid at (length old - at) old part ≡ take at old ++ overwrite n f (drop at old)
   lent-back n f part e = rw (e, lent-part, drop-of-length-le (drop at old) {i = length old - at} (rw length-drop (omega arith)), append-nil)
+
+-- What is written up to a place, and the part from there on given back with more of it.
+pub overwrite-lent : (at n : ℕ) (f g : ℕ → ℕ) (old new part : List ℕ) → new ≡ overwrite at f old → ((j : ℕ) → j < n → g j ≡ f (at + j))
+    → part ≡ overwrite n g (midOf at (length new - at) new) → putMid at (length new - at) new part ≡ overwrite (at + n) f old
+overwrite-lent at n f g old new part e h q =
+    lent-back at new n g part q
+    ∙ ap (λ (xs : List ℕ). take at new ++ xs) (overwrite-agree n g (λ j. f (at + j)) (drop at new) h)
+    ∙ ap (λ (xs : List ℕ). take at xs ++ overwrite n (λ j. f (at + j)) (drop at xs)) e
+    ∙ overwrite-append at n f old

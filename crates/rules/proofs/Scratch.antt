@@ -3,35 +3,42 @@
 -- Assumes nothing.
 use Prim.Native.Nat.{ℕ, _+_, _*_, _/_, _%_, _≤_, _<_}
 use native.Mathlib.Omega.{arith}
-use mathlib.Core.Path.{_≡_, sym, ap, ap₂, _∙_}
-use mathlib.Core.Bool.{true, false, _&&_}
+use mathlib.Core.Path.{_≡_, refl, sym, ap, ap₂, _∙_}
+use mathlib.Core.Bool.{Bool, true, false, cond, _&&_, _||_}
 use mathlib.Core.Logic.{_⊎_, inl, inr}
 use mathlib.Core.List.{List}
-use lib.Dec.{eqb, ltb}
-use lib.ListN.{length}
-use borrow.Author.Tests.{lt-ltb, ltb-true, ltb-false, le-leb}
-use Rattle.rules.specs.Layout.{maxClasses, gives, opening}
+use lib.Dec.{eqb, ltb, leb}
+use lib.ListN.{length, getD}
+use borrow.Author.Tests.{lt-ltb, le-ltb, ltb-true, ltb-false, le-leb}
+use Rattle.rules.specs.Bounded.{any}
+use Rattle.rules.specs.Layout.{maxClasses, Answer, gives, refuses, opening}
 use Rattle.rules.specs.Model.{Model, Wellformed, modelOf}
 use Rattle.rules.specs.Subclass.{Under, subclass}
+use Rattle.rules.specs.Bits.{bitAt}
 use Rattle.rules.specs.Scratch.{scratchBytes, matrixRow, classUnder, entryAt, matrixByte}
-use Rattle.rules.specs.Calls.{overwrite, scratchOn, scratchAfter}
-use Rattle.rules.proofs.Lists.{test, and-left, and-right}
+use Rattle.rules.specs.Calls.{withScratch, overwrite, scratchOn, scratchAfter}
+use Rattle.rules.proofs.Lists.{test, and-left, and-right, any-agree}
 use Rattle.rules.proofs.Wellformed.{opened-wellformed}
-use Rattle.rules.proofs.Subclass.{subclass-under, under-subclass, subclass-not-above}
-use Rattle.rules.proofs.Bits.{bit-test}
-use Rattle.rules.proofs.Overwrite.{overwrite-at}
+use Rattle.rules.proofs.Subclass.{subclass-under, under-subclass, subclass-not-above, parent-lower, subclass-parents}
+use Rattle.rules.proofs.Bits.{byte-bit}
+use Rattle.rules.proofs.Overwrite.{overwrite-at, overwrite-later}
 
 -- The only law that goes by how the matrix is stored.
 pub matrix-entry : (M : Model) (old : List ℕ) (a c : ℕ) → a < maxClasses → c < maxClasses
     → entryAt (overwrite scratchBytes (matrixByte M) old) a c ≡ classUnder M a c
 unfolding entryAt matrixByte
 matrix-entry M old a c h k =
-    let at : ℕ = matrixRow * a + c in
+    let at : ℕ = matrixRow * a + c / 8 in
     let row : at / matrixRow ≡ a = omega arith in
-    let column : at % matrixRow ≡ c = omega arith in
-    ap (λ (x : ℕ). eqb x 1) (overwrite-at scratchBytes (matrixByte M) old at (omega arith))
-    ∙ bit-test (classUnder M (at / matrixRow) (at % matrixRow))
+    let column : 8 * (at % matrixRow) + c % 8 ≡ c = omega arith in
+    ap (λ (x : ℕ). bitAt x (c % 8)) (overwrite-at scratchBytes (matrixByte M) old at (omega arith))
+    ∙ byte-bit (λ i. classUnder M (at / matrixRow) (8 * (at % matrixRow) + i)) (c % 8) (omega arith)
     ∙ ap₂ (classUnder M) row column
+
+-- of a number that is no class nothing is told
+pub absent-lower : (M : Model) (a c : ℕ) → M .classes ≤ a → classUnder M a c ≡ false
+unfolding classUnder
+absent-lower M a c h = rw (le-ltb a (M .classes) h)
 
 module _ (M : Model) (w : Wellformed M) where
   -- of a class the subclass test: no class is under a number that is none
@@ -44,6 +51,14 @@ module _ (M : Model) (w : Wellformed M) where
       go (inl e) s = rw e
       go (inr e) (inl s) = absurd (omega (arith, ltb-false c (M .classes) e, subclass-not-above M w a c h s))
       go (inr e) (inr s) = rw (e, s)
+
+  -- which it is by itself, and by what its parents are under
+  pub class-parents : (a c : ℕ) → a < M .classes → classUnder M a c ≡ (eqb a c || any (λ p. classUnder M p c) (M .parents a))
+  class-parents a c h =
+      class-under a c h
+      ∙ subclass-parents M w a c h
+      ∙ ap (λ (t : Bool). eqb a c || t)
+      (any-agree (λ p. subclass M p c) (λ p. classUnder M p c) (M .parents a) (λ p m. sym (class-under p c (omega (arith, parent-lower M w h m)))))
 
 module _ (b scratch counts : List ℕ) (opened : opening b ≡ gives counts) (long : scratchBytes ≤ length scratch) (a c : ℕ)
     (h : a < maxClasses) (k : c < maxClasses) where
@@ -66,3 +81,21 @@ module _ (b scratch counts : List ℕ) (opened : opening b ≡ gives counts) (lo
   under-entry p u =
       let w = opened-wellformed b counts opened in
       scratch-entry ∙ class-under (modelOf b) w a c p ∙ under-subclass (modelOf b) w a c p u
+
+-- the bytes behind the matrix stay, whatever the bundle and however long the scratch
+pub scratch-later : (b scratch : List ℕ) (i : ℕ) → getD (scratchAfter b scratch) (scratchBytes + i) 0 ≡ getD scratch (scratchBytes + i) 0
+unfolding scratchAfter scratchOn
+scratch-later b scratch i = go (opening b)
+  where
+    lent : (t : Bool) → getD (cond t (overwrite scratchBytes (matrixByte (modelOf b)) scratch) scratch) (scratchBytes + i) 0 ≡ getD scratch (scratchBytes + i) 0
+    lent true = overwrite-later scratchBytes (matrixByte (modelOf b)) scratch i
+    lent false = refl
+
+    go : (r : Answer (List ℕ)) → getD (scratchOn r (modelOf b) scratch) (scratchBytes + i) 0 ≡ getD scratch (scratchBytes + i) 0
+    go (gives counts) = lent (leb scratchBytes (length scratch))
+    go (refuses number values) = refl
+
+-- a scratch that is long enough plays no further part in an answer
+pub lengths-alike : {A : Type 0} (b : List ℕ) (n m : ℕ) (answer : Model → Answer A) → scratchBytes ≤ n → scratchBytes ≤ m → withScratch b n answer ≡ withScratch b m answer
+unfolding withScratch
+lengths-alike b n m answer h k = rw (le-leb scratchBytes n h, le-leb scratchBytes m k)

@@ -1,6 +1,6 @@
 -- The cases that are marked P, as one table, and further worked cases beside them: each entry point, and each number that a call can give.
 -- Assumes nothing.
-use Prim.Native.Nat.{ℕ, _+_}
+use Prim.Native.Nat.{ℕ, _+_, _*_}
 use Prim.Native.String.{String}
 use mathlib.Core.Path.{_≡_}
 use mathlib.Core.Bool.{Bool, true, false}
@@ -9,10 +9,11 @@ use lib.Dec.{eqb}
 use lib.ListN.{length, replicate}
 use Rattle.rules.specs.Bounded.{upto, any}
 use Rattle.rules.specs.Layout.{Answer, gives, refuses}
+use Rattle.rules.specs.Model.{modelOf}
 use Rattle.rules.specs.Types.{Static}
 use Rattle.rules.specs.Machine.{Ending, value, spent, deep, stopped}
 use Rattle.rules.specs.Calls.{rowBytes, openingCall, ancestryCall, lookupCall, sendTypeCall, checkCall, witnessCall, bodyViewCall, bodyViewStart, runCall, rowAfter}
-use Rattle.rules.specs.Scratch.{scratchBytes}
+use Rattle.rules.specs.Scratch.{scratchBytes, matrixByte}
 use Rattle.rules.specs.Bits.{bit}
 use Rattle.rules.specs.Ascii.{ascii}
 use Rattle.rules.specs.Chart.{chartCall, bufferAfter}
@@ -27,6 +28,7 @@ pub data Case : Type 0 where
   finds : List ℕ → ℕ → List ℕ → Answer ℕ → Case
   checks : List ℕ → Answer (Unit {0}) → Case
   checksIn : List ℕ → ℕ → Answer (Unit {0}) → Case
+  fills : List ℕ → List ℕ → Case
   witnesses : List ℕ → ℕ → List ℕ → Answer (Unit {0}) → Case
   types : List ℕ → ℕ → List ℕ → List ℕ → Case
   typesIn : List ℕ → ℕ → ℕ → List ℕ → Answer Static → Case
@@ -39,7 +41,13 @@ pub data Case : Type 0 where
 unfoldable pub rowOf : List ℕ → List ℕ
 rowOf classes = map (λ k. bit (any (eqb k) classes)) (upto rowBytes)
 
--- A send type is compared by its whole row, and a line of a chart by its whole buffer, of which two bytes more are lent than it takes; all are 9 before the call.
+-- the rows of classes that are under none above 7, by the first byte of each
+unfoldable pub matrixOf : List ℕ → List ℕ
+matrixOf [] = []
+matrixOf (x ∷ xs) = x ∷ replicate 15 0 ++ matrixOf xs
+
+-- A send type is compared by its whole row, and a line of a chart by its whole buffer, of which two bytes more are lent than it takes; all are 9 before the call. The matrix is
+-- compared by the rows of all classes, and by that of the first number that is none.
 abbrev pub Stands : Case → Type 0
 Stands (opens b answer) = openingCall b ≡ answer
 Stands (views b m code start) = (bodyViewCall b m ≡ gives code) × (bodyViewStart b m ≡ start)
@@ -47,6 +55,7 @@ Stands (asks b a c answer) = ancestryCall b scratchBytes a c ≡ gives answer
 Stands (finds b f tuple answer) = lookupCall b scratchBytes f tuple ≡ answer
 Stands (checks b answer) = checkCall b scratchBytes ≡ answer
 Stands (checksIn b n answer) = checkCall b n ≡ answer
+Stands (fills b rows) = map (matrixByte (modelOf b)) (upto (16 * length rows + 16)) ≡ matrixOf rows ++ replicate 16 0
 Stands (witnesses b s tuple answer) = witnessCall b scratchBytes s tuple ≡ answer
 Stands (types b f tuple classes) =
     rowAfter b scratchBytes (replicate (rowBytes + 2) 9) f tuple ≡ rowOf classes ++ 9 ∷ 9 ∷ []
@@ -118,7 +127,9 @@ worked =
     ∷ typesIn noLicence rowBytes 1 (0 ∷ 0 ∷ 0 ∷ []) (refuses 16 [])
     ∷ finds chart3 1 (1 ∷ 3 ∷ 0 ∷ []) (refuses 18 [])
     ∷ finds chart3 0 (1 ∷ 3 ∷ 1 ∷ []) (refuses 18 [])
-    ∷ checksIn chart4 16383 (refuses 19 [])
+    ∷ checksIn chart4 2047 (refuses 19 [])
+    ∷ checksIn chart4 2048 (gives tt)
+    ∷ fills chart3 (1 ∷ 3 ∷ 7 ∷ 9 ∷ 25 ∷ 33 ∷ 97 ∷ 161 ∷ [])
     ∷ typesIn chart5 127 0 (2 ∷ 4 ∷ 0 ∷ []) (refuses 20 [])
     ∷ charts chart3 0 0 "        1    2    3    4    6    7\n"
     ∷ charts chart3 0 1 "   1    -    -    2    0    -    -\n"

@@ -1,3 +1,4 @@
 pub mod Entry
+pub mod Rows
 pub mod Asked
 pub mod Tuples

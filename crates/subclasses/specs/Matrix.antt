@@ -1,20 +1,16 @@
--- The scratch as the subclass matrix of a model.
+-- The scratch as the subclass matrix of a model, and the rows of the matrix as words of bits.
 -- Assumes nothing.
-use Prim.Native.Nat.{ℕ, _≤_, _<_}
+use Prim.Native.Nat.{ℕ, _*_, _/_, _%_, _^_, _≤_, _<_}
 use mathlib.Core.Path.{_≡_}
-use mathlib.Core.Bool.{Bool}
+use mathlib.Core.Bool.{Bool, _&&_}
 use mathlib.Core.List.{List}
-use lib.ListN.{length, getD}
-use Rattle.rules.specs.Bounded.{any, matching}
+use lib.Dec.{ltb}
+use lib.ListN.{length}
+use Rattle.rules.specs.Bounded.{matching}
 use Rattle.rules.specs.Layout.{maxClasses}
 use Rattle.rules.specs.Model.{Model}
-use Rattle.rules.specs.Subclass.{subclass}
-use Rattle.rules.specs.Scratch.{scratchBytes, classUnder, entryAt, matrixByte}
-
--- the first n bytes hold the matrix
-pub record FilledTo (M : Model) (s : List ℕ) (n : ℕ) : Type 0 where
-  pub long : n ≤ length s
-  pub holds : (k : ℕ) → k < n → getD s k 0 ≡ matrixByte M k
+use Rattle.rules.specs.Bits.{inSet}
+use Rattle.rules.specs.Scratch.{scratchBytes, classUnder, entryAt}
 
 -- all of it is there, by its entries; a data type, so that proofs pass it on whole
 pub data Filled (M : Model) (s : List ℕ) : Type 0 where
@@ -24,6 +20,15 @@ pub data Filled (M : Model) (s : List ℕ) : Type 0 where
 unfoldable pub entriesAt : List ℕ → List ℕ → List ℕ → Bool
 entriesAt s = matching (entryAt s)
 
--- a parent of a is under c
-unfoldable pub inherited : Model → ℕ → ℕ → Bool
-inherited M a c = any (λ p. subclass M p c) (M .parents a)
+-- the classes that class a is under, as a set of two words
+pub record RowOf (M : Model) (a : ℕ) (row : List ℕ) : Type 0 where
+  pub told : (c : ℕ) → c < maxClasses → inSet row 0 c ≡ classUnder M a c
+
+-- the rows of all numbers below the limit one after the other: those of the first n are made, the others empty
+pub record RowsTo (M : Model) (n : ℕ) (rows : List ℕ) : Type 0 where
+  pub long : length rows ≡ 256
+  pub told : (a c : ℕ) → a < maxClasses → c < maxClasses → inSet rows (2 * a) c ≡ (ltb a n && classUnder M a c)
+
+-- byte j of a word, the lowest being byte 0
+unfoldable pub wordByte : ℕ → ℕ → ℕ
+wordByte x j = x / 2 ^ (8 * j) % 256

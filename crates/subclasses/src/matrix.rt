@@ -1,87 +1,121 @@
-// The subclass matrix: byte 128·a + c of the scratch is 1 when class a is under class c. `fill` writes it and `under` asks it; nothing else knows how
-// it is stored.
+// The subclass matrix: bit c mod 8, the lowest first, of byte 16·a + c / 8 of the scratch is 1 when class a is under class c. `fill` writes it and `under`
+// asks it; nothing else knows how it is stored.
 use layout::bundle::Bundle;
 use layout::field::parent;
 use layout::field::parent_count;
 ghost use mathlib.Core.Path.{_≡_};
-ghost use Prim.Native.Nat.{_*_, _<_, _≤_};
+ghost use mathlib.Core.Bool.{_||_};
+ghost use Prim.Native.Nat.{ℕ, _*_, _<_, _≤_};
+ghost use lib.Dec.{eqb};
 ghost use lib.ListN.{length};
 ghost use Rattle.rules.specs.Layout.{maxClasses};
 ghost use Rattle.rules.specs.Model.{modelOf};
-ghost use Rattle.rules.specs.Scratch.{scratchBytes, matrixRow, entryAt, matrixByte};
+ghost use Rattle.rules.specs.Bits.{inSet};
+ghost use Rattle.rules.specs.Scratch.{scratchBytes, entryAt, matrixByte};
 ghost use Rattle.rules.specs.Calls.{overwrite};
 ghost use Rattle.layout.specs.Opened.{Opened};
-ghost use Rattle.subclasses.specs.Matrix.{FilledTo, inherited};
+ghost use Rattle.subclasses.specs.Matrix.{RowOf, RowsTo, wordByte};
 
-// The entries of a row, and the bytes of the matrix.
-const STRIDE: usize = 128;
+// The bytes of a row, and of the matrix.
+const ROW_BYTES: usize = Bundle::CLASSES / 8;
 
-pub const BYTES: usize = 16384;
+pub const BYTES: usize = Bundle::CLASSES * ROW_BYTES;
 
-// Whether a parent of class a is under class c, by the rows of the parents, which are lower.
-fn inherits(bytes: &[u8], b: Bundle, scratch: &[u8], a: usize, c: usize) -> bool
+// Rows are made as words of bits, and written as bytes once all are made.
+const WORD_BITS: usize = 64;
+
+const WORD_BYTES: usize = 8;
+
+const ROW_WORDS: usize = Bundle::CLASSES / WORD_BITS;
+
+const WORDS: usize = Bundle::CLASSES * ROW_WORDS;
+
+// The row that has class a alone.
+fn own_row(a: usize) -> [u64; ROW_WORDS]
+    requires { ⌜ a < maxClasses ⌝ }
+    ensures { λ r. ⌜ ((c : ℕ) → c < maxClasses → inSet r 0 c ≡ eqb a c) ⌝ }
+{
+    let mut row = [0u64; ROW_WORDS];
+    row[a / WORD_BITS] = 1 << (a % WORD_BITS);
+    row
+}
+
+// A row with the classes of row p as well.
+fn joined(row: &[u64; ROW_WORDS], rows: &[u64; WORDS], p: usize) -> [u64; ROW_WORDS]
+    requires { ⌜ p < maxClasses ⌝ }
+    ensures { λ r. ⌜ ((c : ℕ) → c < maxClasses → inSet r 0 c ≡ (inSet (now (row .entry)) 0 c || inSet (now (rows .entry)) (2 * p) c)) ⌝ }
+{
+    let at = ROW_WORDS * p;
+    [row[0] | rows[at], row[1] | rows[at + 1]]
+}
+
+// Row a: the class itself, and the rows of its parents, which are lower.
+fn row_of(bytes: &[u8], b: Bundle, rows: &[u64; WORDS], a: usize) -> [u64; ROW_WORDS]
     requires { ⌜ Opened (now bytes) b ⌝ }
     requires { ⌜ a < b .classes ⌝ }
-    requires { ⌜ c < b .classes ⌝ }
-    requires { ⌜ FilledTo (modelOf (now bytes)) (now scratch) (matrixRow * a) ⌝ }
-    ensures { λ r. ⌜ r ≡ inherited (modelOf (now (bytes .entry))) a c ⌝ }
+    requires { ⌜ RowsTo (modelOf (now bytes)) a (now rows) ⌝ }
+    ensures { λ r. ⌜ RowOf (modelOf (now (bytes .entry))) a r ⌝ }
 {
+    let mut row = own_row(a);
     let n = parent_count(bytes, b, a);
     let mut i = 0;
     while i < n {
         let p = parent(bytes, b, a, i);
-        if scratch[STRIDE * p + c] == 1 {
-            return true;
-        }
+        row = joined(&row, rows, p);
         i += 1;
     }
-    false
+    row
 }
 
-// Byte k of the matrix, given the bytes before it.
-fn entry(bytes: &[u8], b: Bundle, scratch: &[u8], k: usize) -> u8
+// All rows; those of numbers that are no class are empty.
+fn rows_of(bytes: &[u8], b: Bundle) -> [u64; WORDS]
     requires { ⌜ Opened (now bytes) b ⌝ }
-    requires { ⌜ k < scratchBytes ⌝ }
-    requires { ⌜ FilledTo (modelOf (now bytes)) (now scratch) k ⌝ }
-    ensures { λ r. ⌜ r ≡ matrixByte (modelOf (now (bytes .entry))) k ⌝ }
+    ensures { λ r. ⌜ RowsTo (modelOf (now (bytes .entry))) (b .classes) r ⌝ }
 {
-    let a = k / STRIDE;
-    let c = k % STRIDE;
-    if b.classes <= a {
-        return 0;
+    let mut rows = [0u64; WORDS];
+    let mut a = 0;
+    while a < b.classes {
+        let row = row_of(bytes, b, &rows, a);
+        rows[ROW_WORDS * a] = row[0];
+        rows[ROW_WORDS * a + 1] = row[1];
+        a += 1;
     }
-    if b.classes <= c {
-        return 0;
-    }
-    if a == c {
-        return 1;
-    }
-    if inherits(bytes, b, scratch, a, c) {
-        return 1;
-    }
-    0
+    rows
 }
 
-// Writes the matrix into the first bytes of the scratch, row by row: each byte costs at most as many reads as its class has parents.
+// Writes a word as the first eight bytes of a part, the lowest byte first.
+fn put_word(word: u64, part: &mut [u8])
+    requires { ⌜ 8 ≤ length (now part) ⌝ }
+    ensures { λ _. ⌜ now (part .exit) ≡ overwrite 8 (wordByte word) (now (part .entry)) ⌝ }
+{
+    let mut j = 0;
+    while j < WORD_BYTES {
+        part[j] = ((word >> (8 * j)) % 256) as u8;
+        j += 1;
+    }
+}
+
+// Writes the matrix into the first bytes of the scratch. Each class costs two words for each of its parents.
 pub fn fill(bytes: &[u8], b: Bundle, scratch: &mut [u8])
     requires { ⌜ Opened (now bytes) b ⌝ }
     requires { ⌜ scratchBytes ≤ length (now scratch) ⌝ }
     ensures { λ _. ⌜ now (scratch .exit) ≡ overwrite scratchBytes (matrixByte (modelOf (now (bytes .entry)))) (now (scratch .entry)) ⌝ }
 {
-    let mut k = 0;
-    while k < BYTES {
-        let v = entry(bytes, b, scratch, k);
-        scratch[k] = v;
-        k += 1;
+    let rows = rows_of(bytes, b);
+    let mut w = 0;
+    while w < WORDS {
+        let at = WORD_BYTES * w;
+        put_word(rows[w], &mut scratch[at..]);
+        w += 1;
     }
 }
 
-// The entry of class a under class c. In a scratch that holds the matrix of a model, it says whether a is under c.
+// The bit of class a under class c. In a scratch that holds the matrix of a model, it says whether a is under c.
 pub fn under(scratch: &[u8], a: usize, c: usize) -> bool
     requires { ⌜ scratchBytes ≤ length (now scratch) ⌝ }
     requires { ⌜ a < maxClasses ⌝ }
     requires { ⌜ c < maxClasses ⌝ }
     ensures { λ r. ⌜ r ≡ entryAt (now (scratch .entry)) a c ⌝ }
 {
-    scratch[STRIDE * a + c] == 1
+    (scratch[ROW_BYTES * a + c / 8] >> (c % 8)) % 2 == 1
 }

@@ -38,11 +38,12 @@ fn cases() -> Vec<Case> {
         open_case("open the largest bundle, last operand too high", bundles::largest_broken(), (9, 511)),
         open_case("open 512 methods of one function", bundles::many_methods(false), (0, 128)),
         open_case("open 512 methods of one function, all in one bucket", bundles::one_bucket(), (0, 128)),
-        ancestry_case("ancestry: 128 classes of three parents", bundles::classes()),
+        ancestry_case("ancestry: 128 classes of three parents", bundles::classes(), 127),
+        ancestry_case("ancestry on chart-3", bundles::chart_3(), 7),
         lookup_case("lookup among 512 methods", bundles::many_methods(false), next, 0),
         lookup_case("lookup among 512 methods that all apply, ambiguous", bundles::rivals_in_the_middle(), last, 11),
         repeated(LINES, chart_case("chart of 128 classes, 512 methods: all 129 lines", bundles::chart())),
-        repeated(LINES, ancestry_case("ancestry on the bundle of that chart, 129 times", bundles::chart())),
+        repeated(LINES, ancestry_case("ancestry on the bundle of that chart, 129 times", bundles::chart(), 127)),
         rough_case("rough answer on chart-3, last of 4 tuples fails", bundles::chart_3(), [1, 3, 0], 1),
         rough_case("rough answer, 2,048,383 tuples, 512 methods, one", bundles::found_everywhere(), [0; 3], 0),
         rough_case("rough answer, 2,097,152 tuples, 512 methods, several", bundles::many_methods(false), [0; 3], 2),
@@ -81,14 +82,17 @@ fn open_case(name: &'static str, bundle: Vec<u8>, (number, first): (u8, u64)) ->
     }
 }
 
-fn ancestry_case(name: &'static str, bundle: Vec<u8>) -> Case {
-    let [a, b] = [bundle.clone(), bundle];
-    let (mut scratch_1, mut scratch_2) = ([0; plain::SCRATCH], [0; plain::SCRATCH]);
+/// Whether a class is under class 0, as every class is.
+fn ancestry_case(name: &'static str, bundle: Vec<u8>, class: u64) -> Case {
+    let [a, b, c] = [bundle.clone(), bundle.clone(), bundle];
+    let [mut scratch_1, mut scratch_2, mut scratch_3] = [[0; plain::SCRATCH]; 3];
     Case {
         name,
-        library: Box::new(move || by_library(|values| raw::ancestry(black_box(&a), &mut scratch_1, 127, 0, values))),
-        plain: Some(Box::new(move || by_plain(plain::ancestry(black_box(&b), &mut scratch_2, 127, 0)))),
-        fast: None,
+        library: Box::new(move || by_library(|values| raw::ancestry(black_box(&a), &mut scratch_1, class, 0, values))),
+        plain: Some(Box::new(move || by_plain(plain::ancestry(black_box(&b), &mut scratch_2, class, 0)))),
+        fast: Some(Box::new(move || {
+            by_library(|values| fast::ancestry(black_box(&c), &mut scratch_3, class, 0, values))
+        })),
         expected: (0, Some(1)),
     }
 }

@@ -1,5 +1,6 @@
 //! Calls, made on every implementation that has them with the same bytes in every buffer.
 
+use crate::matrix::PAIRS;
 use crate::rivals::beaten_and_rivals;
 use crate::tally::Tally;
 use crate::{generate, opening, rough};
@@ -45,6 +46,10 @@ impl Call {
             Call::Listing(..) => "listing",
             Call::Chart(..) => "chart",
         }
+    }
+
+    fn takes_scratch(&self) -> bool {
+        !matches!(self, Call::Open | Call::Body(..) | Call::Listing(..))
     }
 
     /// How long a buffer for a text the call is lent.
@@ -108,6 +113,7 @@ impl Call {
     pub fn by_fast(&self, bundle: &[u8], [scratch, ..]: Buffers, values: &mut raw::Values) -> Option<u8> {
         match *self {
             Call::Open => Some(fast::open(bundle, values)),
+            Call::Ancestry(a, b) => Some(fast::ancestry(bundle, scratch, a, b, values)),
             Call::Check => Some(fast::check(bundle, scratch, values)),
             Call::Rough(function, uppers) => Some(fast::rough(bundle, scratch, function, uppers, values)),
             _ => None,
@@ -148,10 +154,13 @@ struct Lent {
 impl Lent {
     fn choose(random: &mut Random, call: &Call) -> Lent {
         let scratch = match random.below(16) {
-            0 => random.of(&[0, 1, 127, 128, 16_128, 16_256, 16_383]),
+            0 => random.of(&[0, 1, 15, 16, 1_024, 2_032, 2_047]),
             1 => random.below(plain::SCRATCH),
             2..=9 => plain::SCRATCH,
-            _ => plain::SCRATCH + random.within(1, 200),
+            10..=13 => plain::SCRATCH + random.within(1, 200),
+            // So long that a matrix of a byte for each pair would fit, or nearly.
+            14 => random.of(&[PAIRS - 1, PAIRS, PAIRS + 1]),
+            _ => random.within(plain::SCRATCH, 20_000),
         };
         let row = match random.below(16) {
             0 => random.of(&[0, 1, 64, 127]),
@@ -304,6 +313,9 @@ impl Comparer {
     fn count(&mut self, bundle: &[u8], call: &Call, answered: &mut Answered) {
         let (number, values) = answered.reply;
         self.tally.count(call.name(), number);
+        if call.takes_scratch() {
+            self.tally.count_scratch(number, answered.buffers[0].lent.len());
+        }
         match (call, number) {
             (Call::Run(..) | Call::RunAccepted(..), 0) => self.tally.count_run(values),
             (Call::Open, _) => self.count_opening(bundle, number, values[0] as usize),

@@ -8,6 +8,7 @@ pub mod generate;
 pub mod hierarchy;
 pub mod json;
 pub mod long;
+pub mod matrix;
 pub mod opening;
 pub mod rivals;
 pub mod rough;

@@ -1,12 +1,8 @@
 //! Rough calls: which of them are made on a bundle, what they were about, and how the answers to two of them have to agree.
 
+use crate::matrix::is_under;
 use crate::sections::{classes, functions, methods};
 use builder::Random;
-
-/// Whether a class is under another, by the matrix that a call leaves in its scratch; of an absent class, no.
-fn is_under(matrix: &[u8], class: u64, upper: u64) -> bool {
-    class < 128 && upper < 128 && matrix[(128 * class + upper) as usize] == 1
-}
 
 /// How many places a function of a bundle that opens uses; of an absent function, none.
 fn places(bundle: &[u8], function: u64) -> usize {

@@ -1,10 +1,15 @@
 //! What was seen.
 
+use crate::matrix::PAIRS;
 use crate::rough::{self, KINDS, NARROWED};
 use std::fmt;
 
 /// The numbers of refusals, and 0 for an answer.
 pub const NUMBERS: usize = 25;
+
+/// Scratches that have to be met, the first of them refused, the others filled.
+const SCRATCHES: [&str; 4] =
+    ["of 2,047 bytes", "of 2,048 bytes", "of 2,049 to 16,383 bytes", "of 16,384 bytes or more"];
 
 /// How many methods in one bucket are many.
 const MANY: usize = 16;
@@ -22,6 +27,8 @@ pub struct Tally {
     pub checks: [usize; NUMBERS],
     /// For each entry point, how often it gave each number.
     pub by_call: Vec<(&'static str, [usize; NUMBERS])>,
+    /// How many calls were lent a scratch of each kind.
+    pub scratches: [usize; SCRATCHES.len()],
     /// How many ambiguous sends had three or more rivals.
     pub three_rivals: usize,
     /// How many ambiguous sends had a beaten method with a higher number than the second rival that is named.
@@ -55,6 +62,18 @@ impl Tally {
         self.by_call[at].1[number as usize % NUMBERS] += 1;
     }
 
+    /// Counts a call that takes a scratch by the scratch's length, where the call was refused for that or filled it.
+    pub fn count_scratch(&mut self, number: u8, length: usize) {
+        let filled = !matches!(number, 1..=9 | 19);
+        let kinds = [
+            number == 19 && length == plain::SCRATCH - 1,
+            filled && length == plain::SCRATCH,
+            filled && length > plain::SCRATCH && length < PAIRS,
+            filled && length >= PAIRS,
+        ];
+        add(&mut self.scratches, kinds);
+    }
+
     /// Counts how a run of number 0 ended.
     pub fn count_run(&mut self, values: [u64; 8]) {
         self.ends[values[0] as usize % 3] += 1;
@@ -63,9 +82,7 @@ impl Tally {
 
     /// Counts a rough answer by its kinds.
     pub fn count_rough(&mut self, kinds: rough::Kinds) {
-        for (count, met) in self.rough.iter_mut().zip(kinds) {
-            *count += met as usize;
-        }
+        add(&mut self.rough, kinds);
     }
 
     /// Counts two rough answers of which the second is for classes under those of the first.
@@ -104,7 +121,7 @@ impl Tally {
     }
 
     /// The numbers 0 to 17 that no check gave, those from 18 on, which are not a check's own, that no call gave, and the kinds of
-    /// ambiguous sends, of openings and of rough answers that no call met.
+    /// scratches, of ambiguous sends, of openings and of rough answers that no call met.
     pub fn never_seen(&self) -> Vec<String> {
         let seen = |number: usize| match number {
             0..=17 => self.checks[number] != 0,
@@ -120,6 +137,8 @@ impl Tally {
             (between, "twins with others of their bucket between them"),
         ];
         never.extend(kinds.into_iter().filter(|(count, _)| *count == 0).map(|(_, kind)| kind.to_string()));
+        let scratches = self.scratch_counts().into_iter().filter(|(count, _)| *count == 0);
+        never.extend(scratches.map(|(_, kind)| format!("a scratch {kind}")));
         let rough = self.rough_counts().into_iter().chain(self.narrowed_counts());
         never.extend(rough.filter(|(count, _)| *count == 0).map(|(_, kind)| format!("rough answer: {kind}")));
         for (number, counts) in [4, 7].into_iter().zip(self.off_by_one) {
@@ -127,6 +146,11 @@ impl Tally {
             never.extend(places.map(|(place, _)| format!("{number} off by one where {place}")));
         }
         never
+    }
+
+    /// How many calls were lent a scratch of each kind, with the kind's name.
+    fn scratch_counts(&self) -> Vec<(usize, &'static str)> {
+        self.scratches.into_iter().zip(SCRATCHES).collect()
     }
 
     /// How many rough answers were of each kind, with the kind's name.
@@ -137,6 +161,13 @@ impl Tally {
     /// How many pairs of rough answers there were, with the pair's name.
     fn narrowed_counts(&self) -> Vec<(usize, &'static str)> {
         self.narrowed.into_iter().zip(NARROWED).map(|(count, (_, _, name))| (count, name)).collect()
+    }
+}
+
+/// Adds 1 to the counts of the kinds that were met.
+fn add<const N: usize>(counts: &mut [usize; N], met: [bool; N]) {
+    for (count, met) in counts.iter_mut().zip(met) {
+        *count += met as usize;
     }
 }
 
@@ -159,6 +190,7 @@ impl fmt::Display for Tally {
                 (0..NUMBERS).filter(|&n| counts[n] != 0).map(|n| format!("{n}:{}", counts[n])).collect();
             writeln!(f, "  {name}: {}", seen.join(" "))?;
         }
+        writeln!(f, "scratches: {}", listed(&self.scratch_counts()))?;
         let (three, above) = (self.three_rivals, self.beaten_above);
         writeln!(f, "ambiguous: {three} with three rivals or more, {above} with a beaten method above a named rival")?;
         let [before, between] = self.beside_twins;

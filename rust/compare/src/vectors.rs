@@ -7,7 +7,12 @@ use std::path::Path;
 use std::process::ExitCode;
 
 /// The files and the call that each is about; the fields of a case name the call where there are several.
-const FILES: [&str; 9] = ["opening", "check", "lookup", "witness", "sendtype", "run", "view", "chart", "rough"];
+const FILES: [&str; 10] =
+    ["opening", "check", "lookup", "witness", "sendtype", "run", "view", "chart", "rough", "scratch"];
+
+/// What the lent buffers are filled with before a call, which is made once for each. They have no bit in common, so a byte that
+/// should be written and is not differs from what it should be in one of the two.
+const FILLERS: [u8; 2] = [0x00, 0xff];
 
 /// Holds the implementations to the files of a folder, which has one or more of them.
 pub fn compare(folder: &Path) -> ExitCode {
@@ -76,6 +81,8 @@ fn call(case: &Json) -> Option<Call> {
         ("view", 1) => Call::Body(n[0]),
         ("rough", 4) => Call::Rough(n[0], [n[1], n[2], n[3]]),
         ("chart", 3) => Call::Chart(n[0], n[1], usize::try_from(n[2]).ok()?),
+        // With the length of the scratch.
+        ("check", 1) => Call::Check,
         _ => return None,
     })
 }
@@ -83,10 +90,6 @@ fn call(case: &Json) -> Option<Call> {
 /// Makes a call by the implementations that have it and holds each to the expected answer.
 fn made(bundle: &[u8], call: &Call, case: &Json, counts: &mut Counts) -> Option<()> {
     let expected = expected(call, case.get("answer")?)?;
-    let mut left = Lent::before(call);
-    if expected.0 == 0 {
-        left.write(case)?;
-    }
     type Maker = fn(&Call, &[u8], Buffers, &mut raw::Values) -> Option<u8>;
     let makers: [(&str, Maker); 3] = [
         ("plain", |call, bundle, buffers, values| {
@@ -97,45 +100,75 @@ fn made(bundle: &[u8], call: &Call, case: &Json, counts: &mut Counts) -> Option<
         ("the library", |call, bundle, buffers, values| Some(call.by_library(bundle, buffers, values))),
         ("fast", Call::by_fast),
     ];
-    for (who, make) in makers {
-        let (mut lent, mut values) = (Lent::before(call), [7; 8]);
-        let buffers: Buffers = [&mut [7; plain::SCRATCH], &mut lent.row, &mut lent.text];
-        let Some(number) = make(call, bundle, buffers, &mut values) else {
-            continue;
-        };
-        let said = (number, values);
-        counts.calls += 1;
-        if said != expected || lent != left {
-            counts.wrong += 1;
-            println!("{call:?}: {who} gives {said:?}, expected {expected:?}; bundle {}", builder::hex(bundle));
+    for filler in FILLERS {
+        let before = Lent::filled(filler, call, case)?;
+        let left = before.clone().after(case, expected.0)?;
+        for (who, make) in makers {
+            let (mut lent, mut values) = (before.clone(), [7; 8]);
+            let buffers: Buffers = [&mut lent.scratch, &mut lent.row, &mut lent.text];
+            let Some(number) = make(call, bundle, buffers, &mut values) else {
+                continue;
+            };
+            let said = (number, values);
+            counts.calls += 1;
+            let different = lent.different(&left, case);
+            if said != expected || !different.is_empty() {
+                counts.wrong += 1;
+                println!("{call:?} with {} bytes of scratch: {who} gives {said:?}", lent.scratch.len());
+                println!("  expected {expected:?}; other bytes than expected in {different:?}");
+                println!("  bundle {}", builder::hex(bundle));
+            }
         }
     }
     Some(())
 }
 
-/// The lent buffers whose bytes a case names.
-#[derive(PartialEq)]
+/// The buffers that a call is lent.
+#[derive(Clone)]
 struct Lent {
+    scratch: Vec<u8>,
     row: [u8; plain::ROW],
     text: Vec<u8>,
 }
 
 impl Lent {
-    fn before(call: &Call) -> Lent {
-        Lent { row: [7; plain::ROW], text: vec![7; call.text_length()] }
+    fn filled(filler: u8, call: &Call, case: &Json) -> Option<Lent> {
+        let scratch = match case.get("check") {
+            Some(length) => *length.numbers()?.first()? as usize,
+            None => plain::SCRATCH,
+        };
+        Some(Lent { scratch: vec![filler; scratch], row: [filler; plain::ROW], text: vec![filler; call.text_length()] })
     }
 
-    /// Writes what an answered call has to leave.
-    fn write(&mut self, case: &Json) -> Option<()> {
-        if let Some(row) = case.get("row") {
+    /// What a call with this number has to leave, as far as the case names it.
+    fn after(mut self, case: &Json, number: u8) -> Option<Lent> {
+        match case.get("scratch") {
+            None | Some(Json::Null) => {}
+            Some(bytes) => {
+                let matrix = self.scratch.get_mut(..plain::SCRATCH)?;
+                matrix.fill(0);
+                for byte in bytes.list()? {
+                    let [at, value] = byte.numbers()?.try_into().ok()?;
+                    *matrix.get_mut(at as usize)? = u8::try_from(value).ok()?;
+                }
+            }
+        }
+        if let (0, Some(row)) = (number, case.get("row")) {
             let inside = row.numbers()?;
             self.row = std::array::from_fn(|class| inside.contains(&(class as u64)) as u8);
         }
-        if let Some(line) = case.get("line") {
+        if let (0, Some(line)) = (number, case.get("line")) {
             let line = line.word()?.as_bytes();
             self.text.get_mut(..line.len())?.copy_from_slice(line);
         }
-        Some(())
+        Some(self)
+    }
+
+    /// The buffers that are not as they have to be left; of the scratch, only a case that names its bytes says how.
+    fn different(&self, left: &Lent, case: &Json) -> Vec<&'static str> {
+        let scratch = case.get("scratch").is_some() && self.scratch != left.scratch;
+        let different = [("scratch", scratch), ("row", self.row != left.row), ("text", self.text != left.text)];
+        different.into_iter().filter(|(_, different)| *different).map(|(name, _)| name).collect()
     }
 }
 

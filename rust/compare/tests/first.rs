@@ -3,9 +3,7 @@
 
 use builder::{Parts, Random};
 use compare::generate;
-use curiumtoad::raw;
-
-const SCRATCH: usize = 16_384;
+use curiumtoad::{raw, SCRATCH};
 
 /// The number of the library's check, and its values: the signature, the function, the tuple.
 fn checked(bundle: &[u8]) -> (u8, raw::Values) {

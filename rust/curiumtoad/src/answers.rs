@@ -91,7 +91,7 @@ pub enum Refusal {
     /// 18: an absent function, method, signature or class, an unused argument that is not 0, an abstract class in a run
     /// or a witness, or a witness tuple that the signature does not cover.
     Absent,
-    /// 19: the scratch is shorter than 16,384 bytes.
+    /// 19: the scratch is shorter than 2,048 bytes.
     Scratch,
     /// 20: the row is shorter than 128 bytes.
     Row,

@@ -3,8 +3,8 @@
 //! A *bundle* is a small binary file of classes, functions, signatures, methods and method bodies. Every call takes the
 //! bundle's bytes and opens them anew; no state is kept between calls, and no call can fail but by its answer. The calls
 //! other than [`open`], [`body`] and [`listing`] take a scratch of [`SCRATCH`] bytes or more, into which they write which class is
-//! under which: byte 128·a + b is 1 when class a is under class b, else 0. Later bytes are left alone, and so is the
-//! whole scratch where the bundle does not open or the scratch is too short.
+//! under which: bit b mod 8, the least significant first, of byte 16·a + b / 8 is 1 when class a is under class b, else 0.
+//! Later bytes are left alone, and so is the whole scratch where the bundle does not open or the scratch is too short.
 //!
 //! Functions, classes, methods and signatures are numbers, counted from 0; any may be passed, and one that is absent is
 //! refused. The classes of a call are three, whatever the function's argument count; unused places hold 0.
@@ -30,9 +30,9 @@ pub use answers::{
 use std::ops::Range;
 
 /// The version of the library's C functions that this crate declares.
-pub const VERSION: u32 = 2;
+pub const VERSION: u32 = 3;
 /// The least length of a scratch.
-pub const SCRATCH: usize = 16_384;
+pub const SCRATCH: usize = 2_048;
 /// The least length of a row.
 pub const ROW: usize = 128;
 /// A length that is enough for the listing of any bundle.
@@ -75,7 +75,8 @@ pub fn open(bundle: &[u8]) -> Result<Counts, Refusal> {
 /// assert_eq!(ancestry(&bundle, &mut scratch, 4, 3), Ok(true));
 /// assert_eq!(ancestry(&bundle, &mut scratch, 3, 4), Ok(false));
 /// assert_eq!(ancestry(&bundle, &mut scratch, 3, 8), Err(Refusal::Absent));
-/// assert_eq!(scratch[128 * 4 + 3], 1);
+/// // The bit for classes 4 and 3.
+/// assert_eq!(scratch[16 * 4] >> 3 & 1, 1);
 /// # Ok::<(), std::io::Error>(())
 /// ```
 pub fn ancestry(bundle: &[u8], scratch: &mut [u8], a: u64, b: u64) -> Result<bool, Refusal> {

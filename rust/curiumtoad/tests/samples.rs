@@ -89,8 +89,9 @@ fn short_buffers_are_left_alone_and_long_ones_past_their_part() {
     let mut scratch = [9; SCRATCH + 5];
     let mut row = [9; ROW + 5];
     assert_eq!(send_type(&bundle, &mut scratch, &mut row, 0, [2, 4, 0]), SendType::Typed);
-    assert!(scratch[..SCRATCH].iter().chain(&row[..ROW]).all(|&byte| byte < 2));
+    assert_eq!(scratch[..SCRATCH], chart_matrix());
     assert_eq!(scratch[SCRATCH..], [9; 5]);
+    assert!(row[..ROW].iter().all(|&byte| byte < 2));
     assert_eq!(row[ROW..], [9; 5]);
     let mut text = [9; 34];
     assert_eq!(chart(&bundle, &mut scratch, &mut text, 0, 1), Chart::ShortLine);
@@ -98,6 +99,34 @@ fn short_buffers_are_left_alone_and_long_ones_past_their_part() {
     let mut text = [9; 40];
     assert_eq!(chart(&bundle, &mut scratch, &mut text, 0, 1), Chart::Line(35));
     assert_eq!(text[34..], [b'\n', 9, 9, 9, 9, 9]);
+}
+
+/// The matrix of chart-3, chart-4 and chart-5. Class 2 is under 1, class 4 under 3, classes 6 and 7 are under 5, and all under 0.
+fn chart_matrix() -> [u8; SCRATCH] {
+    let mut matrix = [0; SCRATCH];
+    let above = [0b1, 0b11, 0b111, 0b1001, 0b1_1001, 0b10_0001, 0b110_0001, 0b1010_0001];
+    for (class, set) in above.into_iter().enumerate() {
+        matrix[16 * class] = set;
+    }
+    matrix
+}
+
+/// 0 and 255 have no bit in common, so a byte that is not written differs from what it should be in one of the two.
+#[test]
+fn a_scratch_is_written_whole_and_not_past_the_matrix() {
+    let mut many = [0; SCRATCH];
+    for class in 0..128 {
+        many[16 * class] = 1;
+        many[16 * class + class / 8] |= 1 << (class % 8);
+    }
+    for (name, matrix) in [("chart-4", chart_matrix()), ("128-classes", many)] {
+        for before in [0x00, 0xff] {
+            let mut scratch = [before; 20_000];
+            assert_eq!(check(&sample(name), &mut scratch), Verdict::Accepted, "{name}");
+            assert_eq!(scratch[..SCRATCH], matrix, "{name}");
+            assert!(scratch[SCRATCH..].iter().all(|&byte| byte == before), "{name}");
+        }
+    }
 }
 
 #[test]

@@ -7,7 +7,7 @@ pub struct Tables<'a> {
     pub classes: usize,
     /// The concrete classes.
     pub concrete: u128,
-    /// For each class the set of classes it is under.
+    /// For each class the set of classes it is under; of an absent class, the empty set.
     pub ancestors: [u128; 128],
     /// For each class where its parents begin and end in `parents`.
     pub lists: [(u16, u16); 128],

@@ -1,6 +1,6 @@
-//! Opening, check and rough answers, optimised by hand: a peer to measure the library against.
+//! Opening, ancestry, check and rough answers, optimised by hand: a peer to measure the library against.
 //!
-//! - A class's ancestors are a set of 128 bits, and so is a static type.
+//! - A class's ancestors are a set of 128 bits, and so is a static type. The matrix in the scratch is these sets as they are.
 //! - The methods of a function are kept in an order in which a more specific method comes first. Parents have lower
 //!   numbers, so falling order of specialisers is one. The only method that can lead a set of applicable methods is
 //!   then the first of it, and one comparison of sets says whether it does.
@@ -17,8 +17,8 @@ mod layout;
 use coverage::Rough;
 use layout::Tables;
 
-/// The least length of the scratch.
-pub const SCRATCH: usize = 128 * 128;
+/// The least length of the scratch: a bit for each pair of classes.
+pub const SCRATCH: usize = 128 * 128 / 8;
 
 /// What is broken: the number and the values named beside it.
 #[derive(Clone, Copy, Debug, PartialEq, Eq)]
@@ -45,6 +45,11 @@ pub fn open(bundle: &[u8], values: &mut [u64; 8]) -> u8 {
     said(Tables::open(bundle).map(|tables| eight(&tables.counts())), values)
 }
 
+/// Whether class `a` is under class `b`: the number, and where it is 0 a 1 for yes.
+pub fn ancestry(bundle: &[u8], scratch: &mut [u8], a: u64, b: u64, values: &mut [u64; 8]) -> u8 {
+    said(under(bundle, scratch, a, b).map(|under| eight(&[under.into()])), values)
+}
+
 /// Checks a bundle: its number, 0 where it is accepted, and the values.
 pub fn check(bundle: &[u8], scratch: &mut [u8], values: &mut [u64; 8]) -> u8 {
     said(verdict(bundle, scratch).map(|()| eight(&[])), values)
@@ -68,6 +73,14 @@ fn said(answer: Result<[u64; 8], Broken>, values: &mut [u64; 8]) -> u8 {
         Err(broken) => (broken.number, broken.values),
     };
     number
+}
+
+fn under(bundle: &[u8], scratch: &mut [u8], a: u64, b: u64) -> Result<bool, Broken> {
+    let tables = prepare(bundle, scratch)?;
+    if a.max(b) >= tables.classes as u64 {
+        return Err(Broken::new(18, &[]));
+    }
+    Ok(tables.under(a as u8, b as u8))
 }
 
 fn verdict(bundle: &[u8], scratch: &mut [u8]) -> Result<(), Broken> {
@@ -98,33 +111,10 @@ fn prepare<'a>(bundle: &'a [u8], scratch: &mut [u8]) -> Result<Tables<'a>, Broke
     Ok(tables)
 }
 
-/// Writes each ancestor set as 128 bytes, eight bits at a time.
+/// Writes each ancestor set as its 16 bytes. The sets of absent classes are empty.
 fn write_matrix(tables: &Tables, matrix: &mut [u8; SCRATCH]) {
-    let present = tables.classes;
-    for (set, row) in tables.ancestors[..present].iter().zip(matrix.chunks_exact_mut(128)) {
-        for (&bits, bytes) in set.to_le_bytes().iter().zip(row.chunks_exact_mut(8)) {
-            bytes.copy_from_slice(&spread(bits).to_le_bytes());
-        }
-    }
-    matrix[128 * present..].fill(0);
-}
-
-/// The bits of a byte as eight bytes of 0 or 1: each byte keeps its own bit of a copy, and a carry into its top bit says
-/// whether that was 1.
-fn spread(bits: u8) -> u64 {
-    let kept = (bits as u64 * 0x0101_0101_0101_0101) & 0x8040_2010_0804_0201;
-    ((kept + 0x7f7f_7f7f_7f7f_7f7f) >> 7) & 0x0101_0101_0101_0101
-}
-
-#[cfg(test)]
-mod tests {
-    #[test]
-    fn spread_gives_each_bit_its_byte() {
-        for bits in 0..=255u8 {
-            let bytes = super::spread(bits).to_le_bytes();
-            for (place, byte) in bytes.into_iter().enumerate() {
-                assert_eq!(byte, bits >> place & 1);
-            }
-        }
+    let (rows, _) = matrix.as_chunks_mut::<16>();
+    for (row, set) in rows.iter_mut().zip(&tables.ancestors) {
+        *row = set.to_le_bytes();
     }
 }

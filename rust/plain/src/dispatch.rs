@@ -39,6 +39,17 @@ impl Matrix {
     pub fn row(&self, a: usize) -> [bool; 128] {
         self.rows[a]
     }
+
+    /// Writes 16 bytes for each of 128 classes: in the row of class `a`, bit `b` mod 8, the least significant first, of byte
+    /// `b` / 8 says whether it is under class `b`. The rows of absent classes are 0.
+    pub fn write(&self, bytes: &mut [u8]) {
+        bytes.fill(0);
+        for (sixteen, row) in bytes.chunks_exact_mut(16).zip(&self.rows) {
+            for (byte, eight) in sixteen.iter_mut().zip(row.chunks_exact(8)) {
+                *byte = eight.iter().enumerate().fold(0, |bits, (at, &under)| bits | (under as u8) << at);
+            }
+        }
+    }
 }
 
 pub enum Found {

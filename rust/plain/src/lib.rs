@@ -23,8 +23,8 @@ use rough::Rough;
 /// The classes of a call, a signature or a method, place by place. Unused places hold 0.
 pub type Triple = [usize; 3];
 
-/// The least length of the scratch.
-pub const SCRATCH: usize = 128 * 128;
+/// The least length of the scratch: a bit for each pair of classes.
+pub const SCRATCH: usize = 128 * 128 / 8;
 /// The least length of the row.
 pub const ROW: usize = 128;
 /// A length of buffer that is enough for every listing.
@@ -277,11 +277,7 @@ fn prepare(bundle: &[u8], scratch: &mut [u8]) -> Result<(Bundle, Matrix), Reply>
         return Err(Reply::new(SHORT_SCRATCH, &[]));
     }
     let matrix = Matrix::of(&bundle);
-    for a in 0..128 {
-        for b in 0..128 {
-            scratch[128 * a + b] = matrix.under(a, b) as u8;
-        }
-    }
+    matrix.write(&mut scratch[..SCRATCH]);
     Ok((bundle, matrix))
 }
 

@@ -32,6 +32,78 @@ fn lengths() {
     assert_eq!(chart_5().bytes().len(), 146);
 }
 
+/// The matrix of the three charts. Class 2 is under 1, class 4 under 3, classes 6 and 7 are under 5, and all under 0.
+fn chart_matrix() -> [u8; SCRATCH] {
+    let mut matrix = [0; SCRATCH];
+    for (byte, bits) in [
+        (0, 0b1),
+        (16, 0b11),
+        (32, 0b111),
+        (48, 0b1001),
+        (64, 0b1_1001),
+        (80, 0b10_0001),
+        (96, 0b110_0001),
+        (112, 0b1010_0001),
+    ] {
+        matrix[byte] = bits;
+    }
+    matrix
+}
+
+/// What the first bytes of a scratch hold after a call, whatever they held before; those behind them stay.
+fn matrix(parts: &Parts) -> [u8; SCRATCH] {
+    let [after, other] = [0x00, 0xff].map(|before| {
+        let mut scratch = [before; 128 * 128 + 1];
+        assert_eq!(plain::ancestry(&parts.bytes(), &mut scratch, 0, 0), reply(0, &[1]));
+        assert!(scratch[SCRATCH..].iter().all(|&byte| byte == before));
+        *scratch.first_chunk().expect("it is longer")
+    });
+    assert_eq!(after, other);
+    after
+}
+
+#[test]
+fn matrices() {
+    assert_eq!(SCRATCH, 2_048);
+    assert_eq!(matrix(&chart_3()), chart_matrix());
+    // Class 9 is under 7 and 8, and every class under 0.
+    let mut parts = Parts::default();
+    parts.class(true, &[]);
+    for _ in 1..9 {
+        parts.class(true, &[0]);
+    }
+    parts.class(true, &[7, 8]);
+    let ten = matrix(&parts);
+    assert_eq!(ten[7 * 16..][..16], [0x81, 0, 0, 0, 0, 0, 0, 0, 0, 0, 0, 0, 0, 0, 0, 0]);
+    assert_eq!(ten[8 * 16..][..16], [0x01, 1, 0, 0, 0, 0, 0, 0, 0, 0, 0, 0, 0, 0, 0, 0]);
+    assert_eq!(ten[9 * 16..][..16], [0x81, 3, 0, 0, 0, 0, 0, 0, 0, 0, 0, 0, 0, 0, 0, 0]);
+    assert!(ten[160..].iter().all(|&byte| byte == 0));
+    // The last class is under every other one, the last but one under none but 0.
+    while parts.classes.len() < 127 {
+        parts.class(true, &[0]);
+    }
+    let all: Vec<u8> = (0..127).collect();
+    parts.class(true, &all);
+    let full = matrix(&parts);
+    assert_eq!(full[..160], ten[..160]);
+    assert_eq!(full[2_016..2_032], [1, 0, 0, 0, 0, 0, 0, 0, 0, 0, 0, 0, 0, 0, 0, 0x40]);
+    assert_eq!(full[2_032..], [255; 16]);
+}
+
+/// A call that is refused by 19, or does not open the bundle, leaves the scratch as it was.
+#[test]
+fn refused_scratches() {
+    let bundle = chart_3().bytes();
+    for length in [0, 1, 2_047] {
+        let mut scratch = vec![7; length];
+        assert_eq!(plain::ancestry(&bundle, &mut scratch, 0, 0), reply(19, &[]));
+        assert_eq!(scratch, vec![7; length]);
+    }
+    let mut scratch = [7; SCRATCH];
+    assert_eq!(plain::ancestry(&bundle[1..], &mut scratch, 0, 0), reply(2, &[]));
+    assert_eq!(scratch, [7; SCRATCH]);
+}
+
 #[test]
 fn lookups() {
     assert_eq!(looked_up(&chart_3(), 1, 3), reply(0, &[2]));
@@ -253,8 +325,8 @@ fn a_chart_writes_its_line_and_the_scratch() {
     let (mut scratch, mut text) = ([7; SCRATCH + 1], [9; 36]);
     assert_eq!(plain::chart(&chart_3().bytes(), &mut scratch, &mut text, 0, 6), reply(0, &[35]));
     assert_eq!(text, *b"   7    -    -    -    -    -    -\n\x09");
-    assert_eq!((scratch[128 * 4 + 3], scratch[128 * 3 + 4], scratch[SCRATCH]), (1, 0, 7));
+    assert_eq!((&scratch[..SCRATCH], scratch[SCRATCH]), (&chart_matrix()[..], 7));
     let mut scratch = [7; SCRATCH];
     assert_eq!(plain::chart(&chart_3().bytes(), &mut scratch, &mut [], 0, 6), reply(23, &[]));
-    assert!(scratch.iter().all(|&byte| byte < 2));
+    assert_eq!(scratch, chart_matrix());
 }

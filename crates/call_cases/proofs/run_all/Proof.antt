@@ -6,10 +6,10 @@ use Rattle.call_cases.proofs.run_all.Statement.{statement}
 use Rattle.call_cases.proofs.run_all.Tie as tie
 
 abbrev Inv-loop : tie.InvT-loop
-Inv-loop space₀ unwritten matrix₀ scratch₀ tallies₀ turns₀ space matrix scratch tallies turns = length space ≡ length space₀
+Inv-loop space₀ unwritten₀ matrix₀ scratch₀ tallies₀ turns₀ space unwritten matrix scratch tallies turns = length space ≡ length space₀
 
 abbrev μ-loop : tie.MeasureT-loop
-μ-loop space₀ unwritten matrix₀ scratch₀ tallies₀ turns₀ space matrix scratch tallies turns = turns
+μ-loop space₀ unwritten₀ matrix₀ scratch₀ tallies₀ turns₀ space unwritten matrix scratch tallies turns = turns
 
 pub run-all-spec : {M : Type 1} → statement M
 run-all-spec =

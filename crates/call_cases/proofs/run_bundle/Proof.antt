@@ -20,6 +20,7 @@ run-bundle-spec =
     (λ c κs. search needs)
     (λ c. search needs)
     (λ c. search needs)
+    (λ c κs. search needs)
     (λ c. search needs)
     (λ c. sym (length-take-le _ _ (search needs)))
     (λ c. search needs)

@@ -5,10 +5,10 @@ use Rattle.lookup_compare.proofs.matrix.is_matrix.Statement.{statement}
 use Rattle.lookup_compare.proofs.matrix.is_matrix.Tie as tie
 
 abbrev Inv-loop : tie.InvT-loop
-Inv-loop bundle scratch class₀ class = Unit {0}
+Inv-loop bundle scratch filler class₀ class = Unit {0}
 
 abbrev μ-loop : tie.MeasureT-loop
-μ-loop bundle scratch class₀ class = 128 - class
+μ-loop bundle scratch filler class₀ class = 128 - class
 
 pub is-matrix-spec : {M : Type 1} → statement M
 is-matrix-spec =
