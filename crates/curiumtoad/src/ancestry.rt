@@ -1,9 +1,9 @@
 // The ancestry question.
-use crate::prepare::Preparation;
-use crate::prepare::prepare;
-use crate::prepare::refusal;
 pub use calls::ancestry::AncestryAnswer;
 use calls::ancestry::ancestry_in;
+use preparation::prepare::Preparation;
+use preparation::prepare::prepare;
+use preparation::prepare::refusal;
 ghost use mathlib.Core.Path.{_≡_};
 ghost use lib.ListN.{length};
 ghost use Rattle.rules.specs.Calls.{ancestryCall, scratchAfter};

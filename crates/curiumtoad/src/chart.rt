@@ -1,9 +1,9 @@
 // The chart of a function of two arguments, a line at a time.
-use crate::prepare::Preparation;
-use crate::prepare::prepare;
-use crate::prepare::refusal;
 pub use chart_line::line::ChartAnswer;
 use chart_line::line::chart_in;
+use preparation::prepare::Preparation;
+use preparation::prepare::prepare;
+use preparation::prepare::refusal;
 ghost use mathlib.Core.Path.{_≡_};
 ghost use lib.ListN.{length};
 ghost use Rattle.rules.specs.Calls.{scratchAfter};

@@ -1,9 +1,9 @@
 // Lookup: which method a send finds.
-use crate::prepare::Preparation;
-use crate::prepare::prepare;
-use crate::prepare::refusal;
 pub use calls::lookup::LookupAnswer;
 use calls::lookup::lookup_in;
+use preparation::prepare::Preparation;
+use preparation::prepare::prepare;
+use preparation::prepare::refusal;
 use subclasses::send::Send;
 ghost use mathlib.Core.Path.{_≡_};
 ghost use lib.ListN.{length};

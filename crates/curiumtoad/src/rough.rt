@@ -1,7 +1,7 @@
 // What a send finds where only an upper class is known for each argument.
-use crate::prepare::Preparation;
-use crate::prepare::prepare;
-use crate::prepare::refusal;
+use preparation::prepare::Preparation;
+use preparation::prepare::prepare;
+use preparation::prepare::refusal;
 use subclasses::send::Send;
 pub use upper_classes::answer::RoughAnswer;
 use upper_classes::answer::rough_in;

@@ -1,9 +1,9 @@
 // The send type call.
-use crate::prepare::Preparation;
-use crate::prepare::prepare;
-use crate::prepare::refusal;
 pub use calls::send_type::SendTypeAnswer;
 use calls::send_type::send_type_in;
+use preparation::prepare::Preparation;
+use preparation::prepare::prepare;
+use preparation::prepare::refusal;
 use subclasses::send::Send;
 ghost use mathlib.Core.Path.{_≡_};
 ghost use lib.ListN.{length};

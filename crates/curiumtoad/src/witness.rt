@@ -1,10 +1,10 @@
 // The witness check: the coverage rule for one signature and one tuple.
-use crate::prepare::Preparation;
-use crate::prepare::prepare;
-use crate::prepare::refusal;
 pub use calls::witness::CoverageFinding;
 pub use calls::witness::WitnessAnswer;
 use calls::witness::witness_in;
+use preparation::prepare::Preparation;
+use preparation::prepare::prepare;
+use preparation::prepare::refusal;
 use subclasses::send::Tuple;
 ghost use mathlib.Core.Path.{_≡_};
 ghost use lib.ListN.{length};

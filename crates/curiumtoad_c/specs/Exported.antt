@@ -6,9 +6,9 @@ use mathlib.Core.List.{List, [], _∷_}
 use lib.ListN.{length}
 use Rattle.rules.specs.Layout.{codeAt}
 use Rattle.reply.specs.declared.Reply as reply-type
-use Rattle.curiumtoad.specs.declared.run_accepted.AcceptedRun as accepted-type
+use Rattle.sound_runs.specs.declared.run_accepted.AcceptedRun as accepted-type
 use Rattle.reply.specs.Replies.{acceptedReply}
-use Rattle.curiumtoad.specs.Accepted.{Accepts}
+use Rattle.sound_runs.specs.Accepted.{Accepts}
 use Rattle.text.specs.declared.listing.ListingAnswer as listing-type
 use Rattle.text.specs.Listed.{Lists, listingReply}
 

@@ -10,8 +10,8 @@ use Rattle.rules.specs.Bits.{bit}
 use Rattle.rules.specs.Rough.{Rough, one, mayFail, several}
 use Rattle.calls.specs.declared.check.Verdict.the-variants as verdict
 use Rattle.calls.specs.Said.{refusalSaid, verdictSaid}
-use Rattle.curiumtoad.specs.declared.run_accepted.AcceptedRun as accepted-type
-use Rattle.curiumtoad.specs.declared.run_accepted.AcceptedRun.the-variants.{Value, Spent, Deep, NotAccepted, NotCovered, Refused}
+use Rattle.sound_runs.specs.declared.run_accepted.AcceptedRun as accepted-type
+use Rattle.sound_runs.specs.declared.run_accepted.AcceptedRun.the-variants.{Value, Spent, Deep, NotAccepted, NotCovered, Refused}
 use Rattle.reply.specs.declared.Reply.{Reply}
 
 -- the values that there are, then zeros, eight in all

@@ -26,7 +26,7 @@ use Rattle.calls.specs.declared.check.Finding.the-variants as finding
 use Rattle.calls.specs.declared.check.Verdict as verdict-type
 use Rattle.calls.specs.declared.check.Verdict.the-variants as verdict
 use Rattle.calls.specs.Said.{coverageSaid, verdictSaid}
-use Rattle.curiumtoad.proofs.Called.{layout-refuses}
+use Rattle.preparation.proofs.Called.{layout-refuses}
 use Rattle.text.specs.declared.listing.ListingAnswer as listing-type
 use Rattle.text.specs.declared.listing.ListingAnswer.the-variants as listing
 use Rattle.lines.specs.Text.{countsLine, verdictLine, listingOn}

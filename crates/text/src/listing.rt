@@ -2,13 +2,13 @@
 use bundle_rules::finding::Opening;
 use bundle_rules::finding::finding_of;
 use bytes::copy;
-use curiumtoad::check::check;
-use curiumtoad::opening::open;
 use layout::bundle::Bundle;
 use lines::line::counts_line;
 use lines::line::layout_line;
 use lines::line::verdict_line;
+use preparation::opening::open;
 use reply::Reply;
+use sound_runs::check::check;
 use subclasses::matrix::BYTES;
 ghost use mathlib.Core.Path.{_≡_};
 ghost use Prim.Native.Nat.{_≤_};

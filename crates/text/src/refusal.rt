@@ -2,7 +2,7 @@
 use crate::listing::ListingAnswer;
 use bytes::copy;
 use calls::refusal::Refusal;
-use curiumtoad::chart::ChartAnswer;
+use chart_line::line::ChartAnswer;
 use lines::line::layout_line;
 use lines::line::number_line;
 ghost use mathlib.Core.Path.{_≡_};

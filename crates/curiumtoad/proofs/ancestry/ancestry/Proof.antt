@@ -3,7 +3,7 @@
 use borrow.Author.Needs.{needs}
 use mathlib.Core.Path.{sym, _∙_}
 use Rattle.rules.specs.Calls.{ancestryIn, ancestryCall}
-use Rattle.curiumtoad.proofs.Called.{refused-call, when-prepared, prepared-by}
+use Rattle.preparation.proofs.Called.{refused-call, when-prepared, prepared-by}
 use Rattle.curiumtoad.proofs.ancestry.ancestry.Statement.{statement}
 use Rattle.curiumtoad.proofs.ancestry.ancestry.Tie as tie
 

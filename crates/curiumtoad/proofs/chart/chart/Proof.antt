@@ -4,7 +4,8 @@ use borrow.Author.Needs.{needs}
 use mathlib.Core.Path.{sym}
 use lib.ListN.{length}
 use Rattle.rules.specs.Chart.{chartIn, chartCall, bufferAfter}
-use Rattle.curiumtoad.proofs.Called.{refused-call, when-prepared, prepared-by, refusal-length, refusal-line}
+use Rattle.preparation.proofs.Called.{refused-call, when-prepared, prepared-by}
+use Rattle.curiumtoad.proofs.Refused.{refusal-length, refusal-line}
 use Rattle.curiumtoad.proofs.chart.chart.Statement.{statement}
 use Rattle.curiumtoad.proofs.chart.chart.Tie as tie
 

@@ -4,7 +4,7 @@ use borrow.Author.Needs.{needs}
 use mathlib.Core.Path.{sym, _∙_}
 use Rattle.rules.specs.Rough.{roughIn, roughCall}
 use Rattle.subclasses.specs.Send.{tupleOf}
-use Rattle.curiumtoad.proofs.Called.{refused-call, when-prepared, prepared-by}
+use Rattle.preparation.proofs.Called.{refused-call, when-prepared, prepared-by}
 use Rattle.curiumtoad.proofs.rough.rough.Statement.{statement}
 use Rattle.curiumtoad.proofs.rough.rough.Tie as tie
 

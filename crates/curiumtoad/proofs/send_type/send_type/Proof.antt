@@ -5,7 +5,8 @@ use mathlib.Core.Path.{sym}
 use lib.ListN.{length}
 use Rattle.rules.specs.Calls.{sendTypeIn, sendTypeCall, rowAfter}
 use Rattle.subclasses.specs.Send.{tupleOf}
-use Rattle.curiumtoad.proofs.Called.{refused-call, when-prepared, prepared-by, refusal-blank, refusal-row}
+use Rattle.preparation.proofs.Called.{refused-call, when-prepared, prepared-by}
+use Rattle.curiumtoad.proofs.Refused.{refusal-blank, refusal-row}
 use Rattle.curiumtoad.proofs.send_type.send_type.Statement.{statement}
 use Rattle.curiumtoad.proofs.send_type.send_type.Tie as tie
 

@@ -4,7 +4,7 @@ use borrow.Author.Needs.{needs}
 use mathlib.Core.Path.{sym, _∙_}
 use Rattle.rules.specs.Calls.{witnessIn, witnessCall}
 use Rattle.subclasses.specs.Send.{classesOf}
-use Rattle.curiumtoad.proofs.Called.{refused-call, when-prepared, prepared-by}
+use Rattle.preparation.proofs.Called.{refused-call, when-prepared, prepared-by}
 use Rattle.curiumtoad.proofs.witness.witness.Statement.{statement}
 use Rattle.curiumtoad.proofs.witness.witness.Tie as tie
 

@@ -3,7 +3,7 @@
 use borrow.Author.Needs.{needs}
 use mathlib.Core.Path.{sym, _∙_}
 use Rattle.bundle_rules.proofs.Opened.{opened-of}
-use Rattle.curiumtoad.proofs.Called.{view-refused, view-absent, view-given}
+use Rattle.method_code.proofs.Viewed.{view-refused, view-absent, view-given}
 use Rattle.reply.proofs.Replies.{layout-reply}
 use Rattle.curiumtoad_c.proofs.Placing.{span-reply}
 use Rattle.curiumtoad_c.proofs.body.body_place.Statement.{statement}
