@@ -148,6 +148,10 @@ SAMPLES = {
     "upper-classes": bundle(
         [(ABSTRACT, []), (ABSTRACT, [0]), (ABSTRACT, [1]), (CONCRETE, [2]), (CONCRETE, [2]), (CONCRETE, [1]), (CONCRETE, [0]), (ABSTRACT, [0])],
         [1], [(0, [1], 1)], [(0, [c], [c], c, [(ARG, 0)]) for c in [1, 2]]),
+    # Sends of function 0 find methods whose specialisers are both arguments, the first alone, the second alone, or neither; function 1 has no arguments.
+    "exact-match": bundle(
+        [(ABSTRACT, []), *[(CONCRETE, [k - 1]) for k in range(1, 4)]], [2, 0], [(0, [1, 1], 1), (1, [], 1)],
+        [(f, places, places, 1, [(NEW, 1)]) for f, places in [(0, [1, 1]), (0, [2, 2]), (1, [])]]),
 }
 
 
@@ -221,6 +225,9 @@ SHOWN = {
     "upper-classes": (
         "accepted: all concrete classes under 2 find one method, those under 1 several, one under 0 finds no method, and 7 has no concrete class under it",
         ["classes 8 functions 1 signatures 1 methods 2", "accepted"]),
+    "exact-match": (
+        "accepted: (1, 1) and (2, 2) find methods written for exactly these classes, (1, 2), (2, 1) and (3, 3) find them too",
+        ["classes 4 functions 2 signatures 2 methods 3", "accepted"]),
     "23-bytes": (
         "refused by 1: a byte short of a directory",
         ["refused 1"]),

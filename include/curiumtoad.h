@@ -42,7 +42,7 @@
 #include <stdint.h>
 
 /* Raised by each change of the bundle's layout, of what scratch, row or values hold or how large they are, or of the arguments of a function. */
-#define CURIUMTOAD_VERSION 3
+#define CURIUMTOAD_VERSION 4
 
 #define CURIUMTOAD_BUNDLE_BYTES 65535  /* the most that a bundle may have */
 #define CURIUMTOAD_SCRATCH_BYTES 2048
@@ -101,9 +101,12 @@ enum curiumtoad_place {
     CURIUMTOAD_AT_SIGNATURES = 2,
     CURIUMTOAD_AT_METHODS = 3,
 
-    /* ancestry: 1 for yes; lookup: the method found */
-    CURIUMTOAD_AT_UNDER = 0,
+    /* ancestry */
+    CURIUMTOAD_AT_ANCESTRY = 0,
+
+    /* lookup: the method found, and 1 where it is exact, else 0 */
     CURIUMTOAD_AT_FOUND = 0,
+    CURIUMTOAD_AT_EXACT = 1,
 
     /* body: where the code begins in the bundle, and its bytes */
     CURIUMTOAD_AT_CODE_START = 0,
@@ -150,6 +153,13 @@ enum curiumtoad_place {
     CURIUMTOAD_AT_REASON = 0
 };
 
+/* What an ancestry call answers. */
+enum curiumtoad_ancestry_answer {
+    CURIUMTOAD_NEITHER = 0,          /* class a is not under class b; b may be under a */
+    CURIUMTOAD_SAME = 1,             /* they are one class */
+    CURIUMTOAD_HEIR = 2              /* class a is under class b and is another class */
+};
+
 /* What a rough call answers. */
 enum curiumtoad_rough_answer {
     CURIUMTOAD_ROUGH_ONE = 0,        /* every tuple finds the method at CURIUMTOAD_AT_ROUGH_METHOD */
@@ -176,11 +186,12 @@ uint32_t curiumtoad_version(void);
 /* Opening. 0: the counts of classes, functions, signatures and methods. Else 1 to 9. */
 uint8_t curiumtoad_open(const uint8_t *bundle, size_t size, uint64_t *values);
 
-/* Ancestry. 0: 1 where class a is under class b, else 0. Else 1 to 9, 18, 19. */
+/* Ancestry. 0: how class a stands to class b, the same, a proper heir, or neither. Else 1 to 9, 18, 19. */
 uint8_t curiumtoad_ancestry(const uint8_t *bundle, size_t size, uint8_t *scratch, size_t scratch_size,
                             uint64_t a, uint64_t b, uint64_t *values);
 
-/* Lookup, abstract classes too. 0: the method that the send finds. Else 1 to 11, 18, 19. */
+/* Lookup, abstract classes too. 0: the method that the send finds, and whether it is exact: its specialiser at each place that the function uses is the
+ * class of the send there, so that a method without arguments always is. Declared classes play no part. Else 1 to 11, 18, 19. */
 uint8_t curiumtoad_lookup(const uint8_t *bundle, size_t size, uint8_t *scratch, size_t scratch_size,
                           uint64_t function, uint64_t a0, uint64_t a1, uint64_t a2, uint64_t *values);
 

@@ -4,7 +4,7 @@ import re
 import sys
 
 from made import write
-from rules import rivals
+from rules import methods_of, rivals
 
 
 def request_of(folder):
@@ -13,13 +13,18 @@ def request_of(folder):
     return int(name) if re.fullmatch("[0-9]{2}", name) else 0
 
 
+def stop(entry, what):
+    """ends the program because of what an entry says"""
+    sys.exit(f"{what}, for the bundle {entry['bundle'][:200]}")
+
+
 def newest_rivals(entry):
     """Three: number 11 names the two highest rivals, the higher first; before, it named the two lowest, the lower first"""
     bundle = bytes.fromhex(entry["bundle"])
 
     def renamed(named, lowest, highest):
         if named != lowest:
-            sys.exit(f"number 11 names {named!r} and not {lowest!r}, the two lowest rivals, for the bundle {entry['bundle'][:200]}")
+            stop(entry, f"number 11 names {named!r} and not {lowest!r}, the two lowest rivals")
         return highest
 
     for answer in [entry["answer"]] if "answer" in entry else [call["answer"] for call in entry["calls"]]:
@@ -32,8 +37,36 @@ def newest_rivals(entry):
                 entry["listing"] = start + word + renamed(named, *("{} {}\n".format(*pair) for pair in pairs))
 
 
+def exact_match(entry):
+    """Seven: ancestry tells the same class from a proper heir, to both of which it said yes before, and beside the method of a lookup stands whether that is
+    for exactly the classes of the send"""
+    bundle = bytes.fromhex(entry["bundle"])
+
+    def related(said, a, b):
+        words = {"yes": "same"} if a == b else {"yes": "heir", "no": "neither"}
+        if said not in words:
+            stop(entry, f"ancestry says {said!r} of {a} and {b}")
+        return words[said]
+
+    def is_exact(method, function, *places):
+        methods = methods_of(bundle, function)
+        if method not in methods:
+            stop(entry, f"a lookup finds {method!r}, which is no method of function {function}")
+        own = methods[method]
+        return tuple(own) == places[:len(own)]
+
+    for call in entry.get("calls", []):
+        answer = call["answer"]
+        if "ancestry" in call and not answer["number"]:
+            answer["answer"] = related(answer["answer"], *call["ancestry"])
+        elif "lookup" in call and not answer["number"]:
+            if "exact" in answer:
+                stop(entry, "a lookup says already whether it is exact")
+            answer["exact"] = is_exact(answer["method"], *call["lookup"])
+
+
 # The requests that change answers of vectors made before them, each with what brings such an entry to its rules.
-CHANGES = {3: newest_rivals}
+CHANGES = {3: newest_rivals, 7: exact_match}
 
 
 def entries(path):

@@ -3,7 +3,7 @@ vector has. The bytes are written down by hand, and the answers follow from the 
 import itertools
 
 import make
-from rules import ABSENT, CLASSES, ONE, SEVERAL, SHORT
+from rules import ABSENT, CLASSES, HEIR, NEITHER, ONE, SAME, SEVERAL, SHORT
 from stream import ROW, SCRATCH, Call, ended, reply, typed
 from uppers import hierarchy
 
@@ -17,8 +17,8 @@ def of_each_length():
     """(bundle, call, reply) for every entry point but the accepted run, whose answers follow from those of the run and the check"""
     send = (0, 2, 4, 0)
     for call, answer in [
-        (Call("ancestry", (2, 1)), reply(0, [1])),
-        (Call("lookup", send), reply(0, [3])),
+        (Call("ancestry", (2, 1)), reply(0, [HEIR])),
+        (Call("lookup", send), reply(0, [3, 1])),
         (Call("send type", send, row=CLASSES), typed([0, 5])),
         (Call("check"), reply(0)),
         (Call("witness", send), reply(0)),
@@ -105,13 +105,13 @@ def at_edges(parent, count):
         for scratch in [LEAST, SCRATCH]:
             yield Call("check", scratch=scratch), reply(0)
         for a, b in itertools.product(own, repeat=2):
-            yield Call("ancestry", (a, b), LEAST), reply(0, [int(b in above[a])])
+            yield Call("ancestry", (a, b), LEAST), reply(0, [SAME if a == b else HEIR if b in above[a] else NEITHER])
         for s, c in itertools.product(range(len(own)), own):
             yield Call("witness", (s, c, 0, 0), LEAST), reply(0 if own[s] in above[c] else ABSENT)
         for c in sorted({near for k in own for near in [k - 1, k, k + 1] if near in range(count)}):
             send = (0, c, 0, 0)
             several = {found[k] for k in range(count) if c in above[k]} != {found[c]}
-            yield Call("lookup", send, LEAST), reply(0, [found[c]])
+            yield Call("lookup", send, LEAST), reply(0, [found[c], int(c in own)])
             yield Call("send type", send, LEAST, CLASSES), typed(above[own[found[c]]])
             yield Call("run", send, LEAST, count=1), ended("value", [c], 1)
             yield Call("rough", send, LEAST), reply(0, [SEVERAL] if several else [ONE, found[c]])

@@ -10,6 +10,8 @@ ABSENT, SHORT, SHORT_ROW, NOT_BINARY, NO_LINE, SHORT_BUFFER, NONE_CONCRETE = ran
 MATRIX, MATRIX_ROW = 2048, 16
 # What a chart shows where lookup gives one of these numbers.
 MARKS = {10: "-", 11: "*"}
+# What ancestry answers for one class and another: the first is not under the other; they are one class; the first is under the other and not that one.
+NEITHER, SAME, HEIR = range(3)
 # The first value of what is said where only upper classes are known.
 ONE, MAY_FAIL, SEVERAL = range(3)
 
@@ -155,9 +157,13 @@ def matrix(bundle):
 
 
 def ancestry(bundle, a, b):
-    """number and values, 1 for yes and 0 for no, of an opened bundle"""
+    """number and values, of an opened bundle: one of NEITHER, SAME and HEIR"""
     sets = above(bundle)
-    return (0, [int(b in sets[a])]) if max(a, b) < len(sets) else (ABSENT, [])
+    if max(a, b) >= len(sets):
+        return ABSENT, []
+    if a == b:
+        return 0, [SAME]
+    return 0, [HEIR if b in sets[a] else NEITHER]
 
 
 def all_under(bundle, classes, others):
@@ -201,7 +207,8 @@ def leading(bundle, methods):
 
 
 def lookup(bundle, function, *places):
-    """number and values, of an opened bundle: the method found; or the function and the places, with the two newest rivals for 11, the newer first"""
+    """number and values, of an opened bundle: the method found, and 1 where each of its specialisers is the class at that place, else 0; or the function
+    and the places, with the two newest rivals for 11, the newer first"""
     if not is_there(bundle, function, *places):
         return ABSENT, []
     methods = applicable(bundle, function, *places)
@@ -209,7 +216,8 @@ def lookup(bundle, function, *places):
         return 10, [function, *places]
     found = leading(bundle, methods)
     if found:
-        return 0, found
+        [method] = found
+        return 0, [method, int(all(c == own for c, own in zip(places, methods[method])))]
     return 11, [function, *places, *rivals(bundle, function, *places)[:2]]
 
 

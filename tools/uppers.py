@@ -177,12 +177,18 @@ def refusals():
     yield from answering(bundle, {(4,): WRONG, (2,): WRONG}, 4)
 
 
+def widened(numbers):
+    """the numbers with each in turn so much higher that it is itself only in its lowest bits"""
+    for k, more in itertools.product(range(len(numbers)), [128, 2**8, 2**16, 2**32, 2**63]):
+        yield [n + more if i == k else n for i, n in enumerate(numbers)]
+
+
 def wide_numbers():
     """each number in turn is another one in its lowest bits, or is the highest there may be"""
     bundle, numbers = make.SAMPLES["chart-4"], [0, 2, 4, 0]
     yield bundle, numbers, finds(3)
-    for k, more in itertools.product(range(len(numbers)), [128, 2**8, 2**16, 2**32, 2**63]):
-        yield bundle, [n + more if i == k else n for i, n in enumerate(numbers)], WRONG
+    for wide in widened(numbers):
+        yield bundle, wide, WRONG
     for k, most in itertools.product(range(len(numbers)), [255, 2**32 - 1, 2**64 - 1]):
         yield bundle, [most if i == k else n for i, n in enumerate(numbers)], WRONG
     # As many classes and functions as there may be, with a method of the last function for the last class.

@@ -12,9 +12,9 @@ request. Answers that a later request changed are brought to the rules as they s
 
 The rules for opening, the scratch, ancestry, lookup, charts and arguments known only by upper classes stand a second time in rules.py. They give the
 answers for bundles that no vector has, and every vector is held to them, so that an answer or a byte of scratch on which the two differ is never passed
-on; so are the answers and bytes that uppers.py and matrices.py have worked out apart. The other answers, of runs, checks, send types and witnesses, are taken
-from the vectors and the rules' own cases; those for bundles made here are worked out by hand from its rules. The answers of accepted runs follow from
-those of the run and the check and from which signatures cover the send.
+on; so are the answers and bytes that uppers.py, matrices.py and exact.py have worked out apart. The other answers, of runs, checks, send types and
+witnesses, are taken from the vectors and the rules' own cases; those for bundles made here are worked out by hand from its rules. The answers of accepted
+runs follow from those of the run and the check and from which signatures cover the send.
 """
 import itertools
 import math
@@ -24,6 +24,7 @@ import sys
 ROOT = pathlib.Path(__file__).resolve().parent.parent
 sys.dont_write_bytecode = True
 sys.path.insert(0, str(ROOT / "bundles"))
+import exact  # noqa: E402
 import make  # noqa: E402
 import matrices  # noqa: E402
 import uppers  # noqa: E402
@@ -364,7 +365,7 @@ def held(bundle, answer, second):
 
 
 # The later parts of the rules that have vectors of their own, beside those of the folder itself.
-LATER = ["requests/01", "requests/02", "requests/03", "requests/04", "requests/05", "requests/06"]
+LATER = ["requests/01", "requests/02", "requests/03", "requests/04", "requests/05", "requests/06", "requests/07"]
 
 
 def vectors(folder, name):
@@ -434,22 +435,28 @@ def reader_cases(folder):
             yield code, Call("reading", (at,)), reply(0, reading(code, at))
 
 
+# What a vector says of two classes, in the order of the values.
+RELATED = ["neither", "same", "heir"]
+
+
 def answer_values(answer):
     """the values of an answer of ancestry or lookup, as the rules give them"""
     if answer["number"] == ABSENT:
         return []
     if answer["number"]:
         return [answer["function"], *answer["tuple"], *answer["methods"]]
-    return [answer["method"] if "method" in answer else int(answer["answer"] == "yes")]
+    if "answer" in answer:
+        return [RELATED.index(answer["answer"])]
+    return [answer["method"], int(answer["exact"])]
 
 
 # P 1 to P 5, and a send with three rivals: (bundle, argument classes of function 0, number, values)
 P_CASES = [
-    ("chart-3", [1, 3], 0, [2]),
-    ("chart-3", [1, 4], 0, [0]),
-    ("chart-3", [2, 3], 0, [1]),
+    ("chart-3", [1, 3], 0, [2, 1]),
+    ("chart-3", [1, 4], 0, [0, 1]),
+    ("chart-3", [2, 3], 0, [1, 1]),
     ("chart-3", [2, 4], 11, [0, 2, 4, 0, 1, 0]),
-    ("chart-4", [2, 4], 0, [3]),
+    ("chart-4", [2, 4], 0, [3, 1]),
     ("three-rivals", [5], 11, [0, 5, 0, 0, 3, 1]),
 ]
 
@@ -486,6 +493,8 @@ def lookup_answers(folder):
             yield bundle, SCRATCH, kind, call[kind], call["answer"]["number"], answer_values(call["answer"])
     for name, places, number, values in P_CASES:
         yield make.SAMPLES[name], SCRATCH, "lookup", [0, *make.padded(places)], number, values
+    for bundle, kind, numbers, answer in exact.cases():
+        yield bundle, SCRATCH, kind, numbers, *answer
 
     def answered(bundle, scratch, questions):
         for kind, numbers in questions:
@@ -508,7 +517,7 @@ def lookup_answers(folder):
 
 
 def lookup_cases(folder):
-    """ancestry answers 1 for yes and 0 for no"""
+    """ancestry has the place of its word among RELATED, and a method that is found 1 beside it where it is exact, else 0"""
     for bundle, scratch, kind, numbers, *answer in lookup_answers(folder):
         held(bundle, tuple(answer), asked(bundle, scratch, kind, *numbers))
         yield bundle, Call(kind, tuple(numbers), scratch), reply(*answer)
@@ -802,7 +811,7 @@ def by_lookups(bundle, function, *upper):
     answers = [lookup(bundle, function, *places, *unused) for places in itertools.product(*below(bundle, function, *upper))]
     if any(number for number, _ in answers):
         return 0, [MAY_FAIL]
-    first, *others = [method for _, [method] in answers]
+    first, *others = [method for _, [method, _] in answers]
     return 0, [SEVERAL] if any(method != first for method in others) else [ONE, first]
 
 

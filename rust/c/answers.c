@@ -72,14 +72,65 @@ static void openings(void)
     HOLDS(curiumtoad_open(BUNDLE, v) == CURIUMTOAD_BAD_CLASS && v[CURIUMTOAD_AT_RECORD] == 1);
 }
 
+/* Whether the ancestry call gives this answer, and 0 for the other values, whatever they are before. */
+static int related(uint64_t a, uint64_t other, uint64_t answer)
+{
+    uint64_t expected[CURIUMTOAD_VALUE_COUNT] = {0};
+    expected[CURIUMTOAD_AT_ANCESTRY] = answer;
+    memset(v, 0xff, sizeof v);
+    return curiumtoad_ancestry(BUNDLE, SCRATCH, a, other, v) == CURIUMTOAD_OK && memcmp(v, expected, sizeof v) == 0;
+}
+
+static void ancestries(void)
+{
+    use("chart-3");
+    for (uint64_t c = 0; c < 8; c++)
+        HOLDS(related(c, c, CURIUMTOAD_SAME));
+    /* Class 4 is under 3 and 0; it is not under 2, nor is that under 4. */
+    HOLDS(related(4, 3, CURIUMTOAD_HEIR) && related(3, 4, CURIUMTOAD_NEITHER));
+    HOLDS(related(4, 0, CURIUMTOAD_HEIR) && related(0, 4, CURIUMTOAD_NEITHER));
+    HOLDS(related(4, 2, CURIUMTOAD_NEITHER) && related(2, 4, CURIUMTOAD_NEITHER));
+    HOLDS(curiumtoad_ancestry(BUNDLE, SCRATCH, 3, UINT64_C(4294967300), v) == CURIUMTOAD_ABSENT);
+    HOLDS(curiumtoad_ancestry(BUNDLE, SCRATCH, 8, 8, v) == CURIUMTOAD_ABSENT);
+    HOLDS(curiumtoad_ancestry(BUNDLE, scratch, sizeof scratch - 1, 3, 4, v) == CURIUMTOAD_SHORT_SCRATCH);
+}
+
+/* Whether a send of function 0 finds the method, exact or not, and the other values are 0, whatever they are before. */
+static int finds(uint64_t a0, uint64_t a1, uint64_t a2, uint64_t method, uint64_t exact)
+{
+    uint64_t expected[CURIUMTOAD_VALUE_COUNT] = {0};
+    expected[CURIUMTOAD_AT_FOUND] = method;
+    expected[CURIUMTOAD_AT_EXACT] = exact;
+    memset(v, 0xff, sizeof v);
+    return curiumtoad_lookup(BUNDLE, SCRATCH, 0, a0, a1, a2, v) == CURIUMTOAD_OK && memcmp(v, expected, sizeof v) == 0;
+}
+
+static void exact_methods(void)
+{
+    /* Method 0 is for classes 3 and 0, method 1 for 0 and 2, method 3 for 1 and 3; class 0 is abstract. */
+    use("several-broken");
+    HOLDS(finds(1, 3, 0, 3, 1));
+    HOLDS(finds(3, 0, 0, 0, 1) && finds(3, 1, 0, 0, 0));
+    HOLDS(finds(0, 2, 0, 1, 1) && finds(1, 2, 0, 1, 0));
+    /* The method is for class 0 and declares class 1. */
+    use("narrow-declared");
+    HOLDS(finds(0, 0, 0, 0, 1) && finds(1, 0, 0, 0, 0));
+    /* Method 0 becomes one for class 0 at each place; method 1 is for 1, 1 and 0. The methods begin where bytes 16 and 17 say. */
+    use("three-argument-tie");
+    memset(&b.bytes[b.bytes[16] + 256 * b.bytes[17] + 1], 0, 3);
+    HOLDS(finds(1, 1, 0, 1, 1) && finds(1, 1, 1, 1, 0));
+    HOLDS(finds(0, 0, 0, 0, 1) && finds(1, 0, 0, 0, 0) && finds(0, 1, 0, 0, 0) && finds(0, 0, 1, 0, 0));
+    /* There is no argument that could be of another class. */
+    use("loop");
+    HOLDS(finds(0, 0, 0, 0, 1));
+}
+
 static void sends(void)
 {
     use("chart-3");
-    HOLDS(curiumtoad_ancestry(BUNDLE, SCRATCH, 4, 3, v) == CURIUMTOAD_OK && v[CURIUMTOAD_AT_UNDER] == 1);
-    HOLDS(curiumtoad_ancestry(BUNDLE, SCRATCH, 3, 4, v) == CURIUMTOAD_OK && v[CURIUMTOAD_AT_UNDER] == 0);
-    HOLDS(curiumtoad_ancestry(BUNDLE, SCRATCH, 3, UINT64_C(4294967300), v) == CURIUMTOAD_ABSENT);
-    HOLDS(curiumtoad_ancestry(BUNDLE, scratch, sizeof scratch - 1, 3, 4, v) == CURIUMTOAD_SHORT_SCRATCH);
-    HOLDS(curiumtoad_lookup(BUNDLE, SCRATCH, 0, 1, 3, 0, v) == CURIUMTOAD_OK && v[CURIUMTOAD_AT_FOUND] == 2);
+    HOLDS(finds(1, 3, 0, 2, 1));
+    HOLDS(curiumtoad_lookup(BUNDLE, SCRATCH, 0, 6, 7, 0, v) == CURIUMTOAD_NO_METHOD);
+    HOLDS(v[CURIUMTOAD_AT_SEND_FUNCTION] == 0 && v[CURIUMTOAD_AT_SEND_A0] == 6 && v[CURIUMTOAD_AT_SEND_A1] == 7 && v[CURIUMTOAD_AT_SEND_A2] == 0);
     HOLDS(curiumtoad_lookup(BUNDLE, SCRATCH, 0, 2, 4, 0, v) == CURIUMTOAD_AMBIGUOUS);
     HOLDS(v[CURIUMTOAD_AT_SEND_FUNCTION] == 0 && v[CURIUMTOAD_AT_SEND_A0] == 2 && v[CURIUMTOAD_AT_SEND_A1] == 4 && v[CURIUMTOAD_AT_SEND_A2] == 0);
     HOLDS(v[CURIUMTOAD_AT_SEND_METHOD] == 1 && v[CURIUMTOAD_AT_SEND_RIVAL] == 0);
@@ -229,6 +280,8 @@ int main(int argc, char **argv)
         HOLDS(curiumtoad_check(BUNDLE, SCRATCH, v) == checks[i].number);
     }
     openings();
+    ancestries();
+    exact_methods();
     sends();
     matrices(0x00);
     matrices(0xff);

@@ -10,8 +10,8 @@ use borrow.Author.Tests.{lt-ltb, le-ltb, le-leb, lt-leb}
 use Rattle.rules.specs.Bounded.{every}
 use Rattle.rules.specs.Layout.{gives, refuses, require, places, padded}
 use Rattle.rules.specs.Model.{Model, modelOf}
-use Rattle.rules.specs.Subclass.{subclass}
-use Rattle.rules.specs.Lookup.{Found, lookup}
+use Rattle.rules.specs.Subclass.{Ancestry, ancestry}
+use Rattle.rules.specs.Lookup.{Found, found, lookup, exact}
 use Rattle.rules.specs.Types.{Static, sendType}
 use Rattle.rules.specs.Coverage.{Judgement, holds, fails, judge, covers, concreteClass, coverageRefusal}
 use Rattle.rules.specs.Machine.{Outcome, run}
@@ -32,7 +32,7 @@ module _ {b : List ℕ} {t : Bundle} (o : Opened b t) (a c : ℕ) where
   ancestry-absent (inl h) = rw (le-ltb a (modelOf b .classes) (rw (sym (counts-of o .classes)) h))
   ancestry-absent (inr h) = rw (le-ltb c (modelOf b .classes) (rw (sym (counts-of o .classes)) h), and-false)
 
-  pub ancestry-answered : a < t .classes → c < t .classes → {r : Bool} → r ≡ subclass (modelOf b) a c → gives r ≡ ancestryIn a c (modelOf b)
+  pub ancestry-answered : a < t .classes → c < t .classes → {r : Ancestry} → r ≡ ancestry (modelOf b) a c → gives r ≡ ancestryIn a c (modelOf b)
   unfolding ancestryIn require
   ancestry-answered h k q =
       rw (q, lt-ltb a (modelOf b .classes) (rw (sym (counts-of o .classes)) h), lt-ltb c (modelOf b .classes) (rw (sym (counts-of o .classes)) k))
@@ -44,9 +44,14 @@ module _ (M : Model) (f : ℕ) (tuple : List ℕ) where
   lookup-absent e = rw e
 
   pub lookup-found : {n : ℕ} {classes : List ℕ} {r : Found} → sendRule M f tuple ≡ true → Passes M f tuple n classes → r ≡ lookup M f (take n classes)
-      → foundAnswer f tuple r ≡ lookupIn f tuple M
+      → foundAnswer M f tuple r ≡ lookupIn f tuple M
   unfolding lookupIn require
   lookup-found e p q = rw (e, q, p .same)
+
+  pub lookup-method : {n m : ℕ} {classes : List ℕ} {t : Bool} → sendRule M f tuple ≡ true → Passes M f tuple n classes → found m ≡ lookup M f (take n classes)
+      → t ≡ exact M (take n classes) m → gives (record { method = m; isExact = t }) ≡ lookupIn f tuple M
+  unfolding foundAnswer
+  lookup-method e p q x = rw (x, p .same) (lookup-found e p q)
 
 -- The answers of a send type call with a row of n bytes.
 module _ (M : Model) (f : ℕ) (tuple : List ℕ) (row : ℕ) where

@@ -1,12 +1,13 @@
 -- What each answer says: the number and values of the rules for each of its cases.
 -- Assumes nothing.
 use Prim.Native.Nat.{ℕ}
-use mathlib.Core.Bool.{Bool, true, false}
 use mathlib.Core.List.{List, [], _∷_, _++_}
 use Rattle.rules.specs.Layout.{Answer, gives, refuses}
 use Rattle.rules.specs.Coverage.{Judgement, holds, fails}
 use Rattle.bundle_rules.specs.Opening.{saidOf}
+use Rattle.rules.specs.Subclass.{Ancestry, same, heir, neither}
 use Rattle.rules.specs.Machine.{Outcome}
+use Rattle.rules.specs.Calls.{Match}
 use Rattle.subclasses.specs.Send.{sendValues}
 use Rattle.machine.specs.Outcome.{outcomeOf}
 use Rattle.calls.specs.declared.refusal.Refusal as refusal-type
@@ -37,13 +38,14 @@ refusalSaid refusal.Scratch = refuses 19 []
 refusalSaid refusal.Row = refuses 20 []
 refusalSaid refusal.Absent = refuses 18 []
 
-abbrev pub ancestrySaid : ancestry-type.AncestryAnswer → Answer Bool
-ancestrySaid ancestry.Under = gives true
-ancestrySaid ancestry.Apart = gives false
+abbrev pub ancestrySaid : ancestry-type.AncestryAnswer → Answer Ancestry
+ancestrySaid ancestry.Same = gives same
+ancestrySaid ancestry.Heir = gives heir
+ancestrySaid ancestry.Neither = gives neither
 ancestrySaid (ancestry.Refused r) = refusalSaid r
 
-abbrev pub lookupSaid : lookup-type.LookupAnswer → Answer ℕ
-lookupSaid (lookup.Method m) = gives m
+abbrev pub lookupSaid : lookup-type.LookupAnswer → Answer Match
+lookupSaid (lookup.Method m e) = gives (record { method = m; isExact = e })
 lookupSaid (lookup.Missing s) = refuses 10 (sendValues s)
 lookupSaid (lookup.Ambiguous s m n) = refuses 11 (sendValues s ++ m ∷ n ∷ [])
 lookupSaid (lookup.Refused r) = refusalSaid r

@@ -1,21 +1,23 @@
 // The ancestry question.
 use crate::refusal::Refusal;
 use layout::bundle::Bundle;
-use subclasses::matrix::under;
+use subclasses::matrix::Ancestry;
+use subclasses::matrix::ancestry_of;
 ghost use mathlib.Core.Path.{_≡_};
 ghost use Rattle.rules.specs.Model.{modelOf};
 ghost use Rattle.rules.specs.Calls.{ancestryIn};
 ghost use Rattle.subclasses.specs.Prepared.{Prepared};
 ghost use Rattle.calls.specs.Said.{ancestrySaid};
 
-// Yes, no, or a refusal.
+// The same class, an heir, neither, or a refusal.
 pub enum AncestryAnswer {
-    Under,
-    Apart,
+    Same,
+    Heir,
+    Neither,
     Refused(Refusal),
 }
 
-// Whether class a is under class c.
+// How class a stands to class c.
 pub fn ancestry_in(bundle: &[u8], b: Bundle, scratch: &[u8], a: usize, c: usize) -> AncestryAnswer
     requires { ⌜ Prepared (now bundle) b (now scratch) ⌝ }
     ensures { λ r. ⌜ ancestrySaid r ≡ ancestryIn a c (modelOf (now (bundle .entry))) ⌝ }
@@ -26,8 +28,9 @@ pub fn ancestry_in(bundle: &[u8], b: Bundle, scratch: &[u8], a: usize, c: usize)
     if b.classes <= c {
         return AncestryAnswer::Refused(Refusal::Absent);
     }
-    if under(scratch, a, c) {
-        return AncestryAnswer::Under;
+    match ancestry_of(scratch, a, c) {
+        Ancestry::Same => AncestryAnswer::Same,
+        Ancestry::Heir => AncestryAnswer::Heir,
+        Ancestry::Neither => AncestryAnswer::Neither,
     }
-    AncestryAnswer::Apart
 }

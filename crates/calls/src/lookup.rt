@@ -1,5 +1,6 @@
-// Lookup: which method a send finds.
+// Lookup: which method a send finds, and whether it is exact.
 use crate::refusal::Refusal;
+use dispatch::exact::is_exact;
 use dispatch::index::index_methods;
 use dispatch::lookup::lookup;
 use dispatch::select::Found;
@@ -13,9 +14,9 @@ ghost use Rattle.subclasses.specs.Prepared.{Prepared};
 ghost use Rattle.subclasses.specs.Send.{tupleOf};
 ghost use Rattle.calls.specs.Said.{lookupSaid};
 
-// The method found; 10; 11 with the two rivals; or a refusal.
+// The method found, and whether its specialisers are the arguments; 10; 11 with the two rivals; or a refusal.
 pub enum LookupAnswer {
-    Method(usize),
+    Method(usize, bool),
     Missing(Send),
     Ambiguous(Send, usize, usize),
     Refused(Refusal),
@@ -34,7 +35,7 @@ pub fn lookup_in(bundle: &[u8], b: Bundle, scratch: &[u8], send: Send) -> Lookup
     let classes = args.classes;
     let index = index_methods(bundle, b);
     match lookup(bundle, b, scratch, &index, send.function, &classes[..n]) {
-        Found::Method(m) => LookupAnswer::Method(m),
+        Found::Method(m) => LookupAnswer::Method(m, is_exact(bundle, b, &classes[..n], m)),
         Found::Missing => LookupAnswer::Missing(send),
         Found::Ambiguous(m, o) => LookupAnswer::Ambiguous(send, m, o),
     }

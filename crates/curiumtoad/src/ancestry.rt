@@ -9,7 +9,7 @@ ghost use lib.ListN.{length};
 ghost use Rattle.rules.specs.Calls.{ancestryCall, scratchAfter};
 ghost use Rattle.calls.specs.Said.{ancestrySaid};
 
-// Whether class a is under class c.
+// How class a stands to class c: the same class, an heir, or neither.
 pub fn ancestry(bundle: &[u8], scratch: &mut [u8], a: usize, c: usize) -> AncestryAnswer
     ensures { λ r. ⌜ ancestrySaid r ≡ ancestryCall (now (bundle .entry)) (length (now (scratch .entry))) a c ⌝ }
     ensures { λ r. ⌜ now (scratch .exit) ≡ scratchAfter (now (bundle .entry)) (now (scratch .entry)) ⌝ }

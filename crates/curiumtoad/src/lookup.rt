@@ -1,4 +1,4 @@
-// Lookup: which method a send finds.
+// Lookup: which method a send finds, and whether it is exact.
 pub use calls::lookup::LookupAnswer;
 use calls::lookup::lookup_in;
 use preparation::prepare::Preparation;

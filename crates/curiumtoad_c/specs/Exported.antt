@@ -14,7 +14,7 @@ use Rattle.text.specs.Listed.{Lists, listingReply}
 
 -- raised by each change of the bundle's layout, of what is lent and written, or of a function's arguments
 abbrev pub version : ℕ
-version = 3
+version = 4
 
 -- the reply is handed over: its number is returned, its values are written
 abbrev pub Handed : reply-type.Reply → ℕ → List ℕ → Type 0

@@ -24,7 +24,7 @@ ghost use Rattle.rules.specs.Calls.{openingCall, ancestryCall, lookupCall, send
 ghost use Rattle.rules.specs.Chart.{chartCall, bufferAfter};
 ghost use Rattle.rules.specs.Rough.{roughCall};
 ghost use Rattle.chart_line.specs.Charted.{lengthSaid};
-ghost use Rattle.reply.specs.Replies.{reply, nothing, counts, yesOrNo, method, lineLength, roughValues, runReply};
+ghost use Rattle.reply.specs.Replies.{reply, nothing, counts, ancestryValues, matchValues, lineLength, roughValues, runReply};
 ghost use Rattle.curiumtoad_c.specs.Exported.{version, Handed, placed, AcceptsAs, ListsAs};
 
 // Writes the values, and gives the number.
@@ -41,7 +41,7 @@ fn give(values: &mut [usize; 8], reply: Reply) -> u8
 pub extern "C" fn curiumtoad_version() -> u32
     ensures { λ r. ⌜ r ≡ version ⌝ }
 {
-    3
+    4
 }
 
 // Opening: the four counts.
@@ -52,7 +52,7 @@ pub extern "C" fn curiumtoad_open(bundle: &[u8], values: &mut [usize; 8]) -> u8
     give(values, Reply::of_opening(open(bundle)))
 }
 
-// The ancestry question: 1 for yes, 0 for no.
+// The ancestry question: 1 for the same class, 2 for an heir, 0 for neither.
 #[no_mangle]
 pub extern "C" fn curiumtoad_ancestry(
     bundle: &[u8],
@@ -61,14 +61,14 @@ pub extern "C" fn curiumtoad_ancestry(
     b: usize,
     values: &mut [usize; 8],
 ) -> u8
-    ensures { λ r. ⌜ Handed (reply yesOrNo (ancestryCall (now (bundle .entry)) (length (now (scratch .entry))) a b)) r (now (values .exit)) ⌝ }
+    ensures { λ r. ⌜ Handed (reply ancestryValues (ancestryCall (now (bundle .entry)) (length (now (scratch .entry))) a b)) r (now (values .exit)) ⌝ }
     ensures { λ r. ⌜ now (scratch .exit) ≡ scratchAfter (now (bundle .entry)) (now (scratch .entry)) ⌝ }
 {
     let answer = ancestry(bundle, scratch, a, b);
     give(values, Reply::of_ancestry(answer))
 }
 
-// Lookup: the method found.
+// Lookup: the method found, and 1 where it is exact.
 #[no_mangle]
 pub extern "C" fn curiumtoad_lookup(
     bundle: &[u8],
@@ -79,7 +79,7 @@ pub extern "C" fn curiumtoad_lookup(
     a2: usize,
     values: &mut [usize; 8],
 ) -> u8
-    ensures { λ r. ⌜ Handed (reply method (lookupCall (now (bundle .entry)) (length (now (scratch .entry))) function (a0 ∷ a1 ∷ a2 ∷ []))) r (now (values .exit)) ⌝ }
+    ensures { λ r. ⌜ Handed (reply matchValues (lookupCall (now (bundle .entry)) (length (now (scratch .entry))) function (a0 ∷ a1 ∷ a2 ∷ []))) r (now (values .exit)) ⌝ }
     ensures { λ r. ⌜ now (scratch .exit) ≡ scratchAfter (now (bundle .entry)) (now (scratch .entry)) ⌝ }
 {
     let tuple = Tuple { a0, a1, a2 };

@@ -47,3 +47,20 @@ pub(crate) fn is_under(bundle: &[u8], class: usize, other: usize) -> bool {
     let marks = all_above(bundle, class);
     marks[other] == 1
 }
+
+// How a class stands to another, as a number to compare.
+pub(crate) const NEITHER: usize = 0;
+
+pub(crate) const SAME: usize = 1;
+
+pub(crate) const HEIR: usize = 2;
+
+pub(crate) fn standing(bundle: &[u8], class: usize, other: usize) -> usize {
+    if class == other {
+        return SAME;
+    }
+    if is_under(bundle, class, other) {
+        return HEIR;
+    }
+    NEITHER
+}

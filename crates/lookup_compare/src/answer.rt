@@ -1,12 +1,12 @@
 // Answers of both implementations, as numbers to compare.
 use crate::print::print_count;
 
-// 0 with the method found, or with 1 for yes and 0 for no; 10; 11 with the two rivals. The library may refuse, or name another send than the one that
+// 0 with the method found and 1 where it is exact, or with how a class stands to another; 10; 11 with the two rivals. The library may refuse, or name another send than the one that
 // is asked for, which the second implementation never does.
 pub(crate) struct Answer {
     pub(crate) number: usize,
     pub(crate) first: usize,
-    second: usize,
+    pub(crate) second: usize,
 }
 
 impl Answer {

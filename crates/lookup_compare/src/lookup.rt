@@ -27,6 +27,11 @@ fn one_if(holds: bool) -> usize
     0
 }
 
+// Whether each class is the one at its place. Unused places hold 0 on both sides.
+fn all_same(classes: Places, others: Places) -> bool {
+    classes.p0 == others.p0 && classes.p1 == others.p1 && classes.p2 == others.p2
+}
+
 // Marks the methods of the function that apply to the argument classes with 1, and counts them.
 fn mark_applicable(bundle: &[u8], function: usize, args: Places, marks: &mut [u8; 512]) -> usize {
     let methods = method_count(bundle);
@@ -93,9 +98,9 @@ impl Rivals {
     }
 }
 
-// What a search through the applicable methods ends with.
+// What a search through the applicable methods ends with: the method found, with its specialisers, or the last rivals.
 enum Outcome {
-    Method(usize),
+    Method(usize, Places),
     Rivals(Rivals),
 }
 
@@ -112,7 +117,7 @@ fn search(bundle: &[u8], applicable: &[u8; 512], count: usize) -> Outcome {
         }
         let standing = rank_of(bundle, applicable, candidate);
         if standing.below == count {
-            return Outcome::Method(candidate);
+            return Outcome::Method(candidate, specialisers(bundle, candidate));
         }
         if standing.above == 1 {
             rivals = rivals.with(candidate);
@@ -121,7 +126,8 @@ fn search(bundle: &[u8], applicable: &[u8; 512], count: usize) -> Outcome {
     Outcome::Rivals(rivals)
 }
 
-// What a send of a function of the bundle with classes of the bundle, 0 at unused places, finds: 0 with the method, 10, or 11 with the two newest rivals.
+// What a send of a function of the bundle with classes of the bundle, 0 at unused places, finds: 0 with the method and whether it is exact, 10, or 11 with the
+// two newest rivals.
 pub(crate) fn lookup(bundle: &[u8], function: usize, args: Places) -> Answer {
     let mut applicable = [0u8; 512];
     let count = mark_applicable(bundle, function, args, &mut applicable);
@@ -129,7 +135,7 @@ pub(crate) fn lookup(bundle: &[u8], function: usize, args: Places) -> Answer {
         return Answer::of(10, 0, 0);
     }
     match search(bundle, &applicable, count) {
-        Outcome::Method(m) => Answer::of(0, m, 0),
+        Outcome::Method(m, own) => Answer::of(0, m, one_if(all_same(args, own))),
         Outcome::Rivals(rivals) => Answer::of(11, rivals.newest, rivals.next),
     }
 }

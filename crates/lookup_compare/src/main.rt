@@ -10,6 +10,9 @@ mod print;
 mod question;
 mod record;
 
+use ancestry::HEIR;
+use ancestry::NEITHER;
+use ancestry::SAME;
 use answer::Answer;
 use bundle_rules::finding::Opening;
 use curiumtoad::Send;
@@ -37,11 +40,13 @@ struct Totals {
     differing: u64,
     bundles: u64,
     unopened: u64,
-    found: u64,
+    exact: u64,
+    inexact: u64,
     missing: u64,
     ambiguous: u64,
-    under: u64,
-    apart: u64,
+    same: u64,
+    heir: u64,
+    neither: u64,
 }
 
 fn one_more(count: u64, is_more: bool) -> u64 {
@@ -58,11 +63,13 @@ impl Totals {
             differing: 0,
             bundles: 0,
             unopened: 0,
-            found: 0,
+            exact: 0,
+            inexact: 0,
             missing: 0,
             ambiguous: 0,
-            under: 0,
-            apart: 0,
+            same: 0,
+            heir: 0,
+            neither: 0,
         }
     }
 
@@ -72,27 +79,32 @@ impl Totals {
             differing: self.differing,
             bundles: one_more(self.bundles, true),
             unopened: one_more(self.unopened, !opens),
-            found: self.found,
+            exact: self.exact,
+            inexact: self.inexact,
             missing: self.missing,
             ambiguous: self.ambiguous,
-            under: self.under,
-            apart: self.apart,
+            same: self.same,
+            heir: self.heir,
+            neither: self.neither,
         }
     }
 
     fn with_call(self, question: Question, got: Answer, is_same: bool) -> Totals {
         let is_lookup = question.is_lookup;
-        let answers = got.number == 0;
+        let is_found = is_lookup && got.number == 0;
+        let is_told = !is_lookup && got.number == 0;
         Totals {
             calls: one_more(self.calls, true),
             differing: one_more(self.differing, !is_same),
             bundles: self.bundles,
             unopened: self.unopened,
-            found: one_more(self.found, is_lookup && answers),
+            exact: one_more(self.exact, is_found && got.second == 1),
+            inexact: one_more(self.inexact, is_found && got.second == 0),
             missing: one_more(self.missing, got.number == 10),
             ambiguous: one_more(self.ambiguous, got.number == 11),
-            under: one_more(self.under, !is_lookup && answers && got.first == 1),
-            apart: one_more(self.apart, !is_lookup && answers && got.first == 0),
+            same: one_more(self.same, is_told && got.first == SAME),
+            heir: one_more(self.heir, is_told && got.first == HEIR),
+            neither: one_more(self.neither, is_told && got.first == NEITHER),
         }
     }
 
@@ -101,11 +113,13 @@ impl Totals {
         print_count(b" differing ", self.differing);
         print_count(b" bundles ", self.bundles);
         print_count(b" unopened ", self.unopened);
-        print_count(b"\nfound ", self.found);
+        print_count(b"\nexact ", self.exact);
+        print_count(b" inexact ", self.inexact);
         print_count(b" missing ", self.missing);
         print_count(b" ambiguous ", self.ambiguous);
-        print_count(b" under ", self.under);
-        print_count(b" apart ", self.apart);
+        print_count(b" same ", self.same);
+        print_count(b" heir ", self.heir);
+        print_count(b" neither ", self.neither);
         print(b"\n");
     }
 }

@@ -1,5 +1,8 @@
 // A question that both implementations answer.
-use crate::ancestry::is_under;
+use crate::ancestry::HEIR;
+use crate::ancestry::NEITHER;
+use crate::ancestry::SAME;
+use crate::ancestry::standing;
 use crate::answer::Answer;
 use crate::print::print;
 use crate::print::print_count;
@@ -16,17 +19,11 @@ pub(crate) struct Question {
     pub(crate) send: Send,
 }
 
-fn one_if(holds: bool) -> usize {
-    if holds {
-        return 1;
-    }
-    0
-}
-
 fn of_ancestry(answer: AncestryAnswer) -> Answer {
     match answer {
-        AncestryAnswer::Under => Answer::of(0, 1, 0),
-        AncestryAnswer::Apart => Answer::of(0, 0, 0),
+        AncestryAnswer::Same => Answer::of(0, SAME, 0),
+        AncestryAnswer::Heir => Answer::of(0, HEIR, 0),
+        AncestryAnswer::Neither => Answer::of(0, NEITHER, 0),
         AncestryAnswer::Refused(_) => Answer::of(Answer::REFUSED, 0, 0),
     }
 }
@@ -51,7 +48,7 @@ impl Question {
 
     fn of_lookup(self, answer: LookupAnswer) -> Answer {
         match answer {
-            LookupAnswer::Method(m) => Answer::of(0, m, 0),
+            LookupAnswer::Method(m, exact) => Answer::of(0, m, exact as usize),
             LookupAnswer::Missing(send) => self.reason(send, 10, 0, 0),
             LookupAnswer::Ambiguous(send, m, n) => self.reason(send, 11, m, n),
             LookupAnswer::Refused(_) => Answer::of(Answer::REFUSED, 0, 0),
@@ -78,7 +75,7 @@ impl Question {
             };
             return crate::lookup::lookup(bundle, send.function, args);
         }
-        Answer::of(0, one_if(is_under(bundle, tuple.a0, tuple.a1)), 0)
+        Answer::of(0, standing(bundle, tuple.a0, tuple.a1), 0)
     }
 
     pub(crate) fn print(self) {

@@ -1,12 +1,13 @@
 -- An answer as a reply: the number of what is refused (M 11), 0 where nothing is, and eight values, those that are not named being 0.
 -- Assumes nothing.
 use Prim.Native.Nat.{ℕ}
-use mathlib.Core.Bool.{Bool}
 use mathlib.Core.List.{List, [], _∷_, _++_}
 use lib.ListN.{take, replicate, set}
 use Rattle.rules.specs.Layout.{Answer, gives, refuses}
 use Rattle.rules.specs.Machine.{Ending, value, spent, deep, stopped, Outcome}
 use Rattle.rules.specs.Bits.{bit}
+use Rattle.rules.specs.Subclass.{Ancestry, same, heir, neither}
+use Rattle.rules.specs.Calls.{Match}
 use Rattle.rules.specs.Rough.{Rough, one, mayFail, several}
 use Rattle.calls.specs.declared.check.Verdict.the-variants as verdict
 use Rattle.calls.specs.Said.{refusalSaid, verdictSaid}
@@ -35,13 +36,15 @@ module _ {A : Type 0} where
 abbrev pub counts : List ℕ → List ℕ
 counts values = values
 
--- ancestry: 1 for yes, 0 for no
-abbrev pub yesOrNo : Bool → List ℕ
-yesOrNo t = bit t ∷ []
+-- ancestry: 1 for the same class, 2 for an heir, 0 for neither
+abbrev pub ancestryValues : Ancestry → List ℕ
+ancestryValues same = 1 ∷ []
+ancestryValues heir = 2 ∷ []
+ancestryValues neither = 0 ∷ []
 
--- lookup: the method
-abbrev pub method : ℕ → List ℕ
-method m = m ∷ []
+-- lookup: the method, and 1 where it is exact
+abbrev pub matchValues : Match → List ℕ
+matchValues x = x .method ∷ bit (x .isExact) ∷ []
 
 -- the line call: how many bytes the line has
 abbrev pub lineLength : ℕ → List ℕ

@@ -29,7 +29,7 @@ ghost use Rattle.calls.specs.Answers.{numberOf, valuesOf};
 ghost use Rattle.calls.specs.Said.{refusalSaid, ancestrySaid, lookupSaid, sendTypeSaid, coverageSaid, witnessSaid, runSaid, verdictSaid};
 ghost use Rattle.chart_line.specs.Charted.{chartSaid};
 ghost use Rattle.upper_classes.specs.Answered.{roughSaid};
-ghost use Rattle.reply.specs.Replies.{numbered, reply, nothing, counts, yesOrNo, method, lineLength, roughValues, endingReply, withSteps, outcomeReply, runReply, acceptedReply};
+ghost use Rattle.reply.specs.Replies.{numbered, reply, nothing, counts, ancestryValues, matchValues, lineLength, roughValues, endingReply, withSteps, outcomeReply, runReply, acceptedReply};
 
 // The number of an answer (M 11), 0 where nothing is refused, and what is named beside it.
 pub struct Reply {
@@ -80,11 +80,12 @@ impl Reply {
     }
 
     pub fn of_ancestry(answer: AncestryAnswer) -> Reply
-        ensures { λ r. ⌜ r ≡ reply yesOrNo (ancestrySaid answer) ⌝ }
+        ensures { λ r. ⌜ r ≡ reply ancestryValues (ancestrySaid answer) ⌝ }
     {
         match answer {
-            AncestryAnswer::Under => Reply::pair(0, 1, 0),
-            AncestryAnswer::Apart => Reply::pair(0, 0, 0),
+            AncestryAnswer::Same => Reply::pair(0, 1, 0),
+            AncestryAnswer::Heir => Reply::pair(0, 2, 0),
+            AncestryAnswer::Neither => Reply::pair(0, 0, 0),
             AncestryAnswer::Refused(refusal) => Reply::of_refusal(refusal),
         }
     }
@@ -101,10 +102,10 @@ impl Reply {
     }
 
     pub fn of_lookup(answer: LookupAnswer) -> Reply
-        ensures { λ r. ⌜ r ≡ reply method (lookupSaid answer) ⌝ }
+        ensures { λ r. ⌜ r ≡ reply matchValues (lookupSaid answer) ⌝ }
     {
         match answer {
-            LookupAnswer::Method(m) => Reply::pair(0, m, 0),
+            LookupAnswer::Method(m, exact) => Reply::pair(0, m, exact as usize),
             LookupAnswer::Missing(send) => Reply::of_send(10, send, 0, 0),
             LookupAnswer::Ambiguous(send, m, n) => Reply::of_send(11, send, m, n),
             LookupAnswer::Refused(refusal) => Reply::of_refusal(refusal),

@@ -14,7 +14,10 @@ use Rattle.rules.specs.Scratch.{scratchBytes}
 use Rattle.rules.proofs.Opening.{opening-number}
 use Rattle.rules.proofs.Wellformed.{opened-wellformed}
 
--- equal refusals have one number
+-- equal answers give the same, and equal refusals have one number
+pub gives-same : {A : Type 0} {x y : A} → _≡_ {A = Answer A} (gives x) (gives y) → x ≡ y
+gives-same e = cc
+
 pub refuses-number : {A : Type 0} {a b : ℕ} {xs ys : List ℕ} → _≡_ {A = Answer A} (refuses a xs) (refuses b ys) → a ≡ b
 refuses-number e = cc
 

@@ -15,6 +15,7 @@ pub mod Types
 pub mod Machine
 pub mod Calls
 pub mod Named
+pub mod Exact
 pub mod Sound
 pub mod Overwrite
 pub mod Bits

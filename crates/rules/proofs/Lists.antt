@@ -563,3 +563,12 @@ module _ {A : Type 0} where
       ap₂ (λ (z : A) (zs : List A). z ∷ zs)
       (h x y (List·Memᴰ·head refl) (List·Memᴰ·head refl) (and-left (p x y) (matching p xs ys) e) (and-left (p y x) (matching p ys xs) f))
       (matching-antisym p xs ys (λ a b m n. h a b (List·Memᴰ·tail m) (List·Memᴰ·tail n)) (and-right (p x y) (matching p xs ys) e) (and-right (p y x) (matching p ys xs) f))
+
+  -- where the test passes at equal elements alone, lists that match are equal
+  pub matching-equal : (p : A → A → Bool) (xs ys : List A) → ((x y : A) → p x y ≡ true → x ≡ y) → matching p xs ys ≡ true → xs ≡ ys
+  unfolding matching
+  matching-equal p [] [] h e = refl
+  matching-equal p [] (y ∷ ys) h e = absurd (false≢true e)
+  matching-equal p (x ∷ xs) [] h e = absurd (false≢true e)
+  matching-equal p (x ∷ xs) (y ∷ ys) h e =
+      ap₂ _∷_ (h x y (and-left (p x y) (matching p xs ys) e)) (matching-equal p xs ys h (and-right (p x y) (matching p xs ys) e))

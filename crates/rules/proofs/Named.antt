@@ -141,7 +141,7 @@ lookup-call-named b scratch f tuple vs e =
     let (w, q) = called-refuses b scratch (lookupIn f tuple) 11 vs (omega arith) (omega arith) e in
     go w (lookup (modelOf b) f (used (modelOf b) f tuple)) refl (required-refuses (sendRule (modelOf b) f tuple) _ 11 vs (omega arith) q)
   where
-    go : Wellformed (modelOf b) → (r : Found) → lookup (modelOf b) f (used (modelOf b) f tuple) ≡ r → foundAnswer f tuple r ≡ refuses 11 vs
+    go : Wellformed (modelOf b) → (r : Found) → lookup (modelOf b) f (used (modelOf b) f tuple) ≡ r → foundAnswer (modelOf b) f tuple r ≡ refuses 11 vs
         → (ms : List ℕ) × (vs ≡ f ∷ tuple ++ ms) × Named (modelOf b) f (used (modelOf b) f tuple) ms
     go w (found m) q h = absurd (false≢true (cc))
     go w missing q h = absurd (omega (arith, refuses-number h))

@@ -1,17 +1,18 @@
--- Subclassing: the test agrees with the relation of the rules on the classes of the bundle, and is a partial order there with class 0 at the top.
+-- Subclassing: the test agrees with the relation of the rules on the classes of the bundle, and is a partial order there with class 0 at the top; and what each
+-- answer of the ancestry question says of two classes.
 -- Assumes nothing.
 use Prim.Native.Nat.{ℕ, zero, suc, _≤_, _<_}
 use native.Mathlib.Nat.{not-suc-le-zero, eq-zero-or-pos, lt-trans}
 use native.Mathlib.Omega.{arith}
-use mathlib.Core.Path.{_≡_, refl}
-use mathlib.Core.Bool.{true, _||_}
-use mathlib.Core.Logic.{_⊎_, inl, inr}
+use mathlib.Core.Path.{_≡_, refl, sym, ap, _∙_}
+use mathlib.Core.Bool.{Bool, true, false, _||_, false≢true}
+use mathlib.Core.Logic.{_⊎_, inl, inr, _↔_}
 use mathlib.Core.List.{List, [], _∷_, List·Memᴰ, List·Memᴰ·head}
 use lib.Dec.{eqb, ltb}
-use borrow.Author.Tests.{eqb-true, eq-eqb, ltb-true}
+use borrow.Author.Tests.{eqb-true, eqb-false, eq-eqb, ne-eqb, ltb-true}
 use Rattle.rules.specs.Bounded.{any}
 use Rattle.rules.specs.Model.{Model, Wellformed, present}
-use Rattle.rules.specs.Subclass.{Under, itself, parent, subclassWithin, subclass, under}
+use Rattle.rules.specs.Subclass.{Under, itself, parent, subclassWithin, subclass, under, Ancestry, same, heir, neither, ancestryBy, ancestry, isUnder}
 use Rattle.rules.proofs.Lists.{agree, or-cases, or-left, or-right, any-mem, any-from, every-mem, matching-refl, matching-trans, matching-antisym}
 
 -- composed paths
@@ -136,3 +137,58 @@ module _ (M : Model) (w : Wellformed M) where
 
       up : (eqb a b || any (λ p. subclass M p b) (M .parents a)) ≡ true → subclass M a b ≡ true
       up e = back (or-cases (eqb a b) (any (λ p. subclass M p b) (M .parents a)) e)
+
+-- The answers of the ancestry question (M 4.2). Whatever the numbers, the class is under the other exactly where the answer is same or heir.
+pub by-under : (t equal : Bool) → isUnder (ancestryBy t equal) ≡ t
+unfolding isUnder ancestryBy
+by-under true true = refl
+by-under true false = refl
+by-under false equal = refl
+
+pub ancestry-under : (M : Model) (a b : ℕ) → isUnder (ancestry M a b) ≡ subclass M a b
+unfolding ancestry
+ancestry-under M a b = by-under (subclass M a b) (eqb a b)
+
+-- which of the three it is, by the two tests
+by-same : (t equal : Bool) → ancestryBy t equal ≡ same → equal ≡ true
+unfolding ancestryBy
+by-same true true e = refl
+by-same true false e = absurd (false≢true (cc))
+by-same false equal e = absurd (false≢true (cc))
+
+by-heir : (t equal : Bool) → ancestryBy t equal ≡ heir → (t ≡ true) × (equal ≡ false)
+unfolding ancestryBy
+by-heir true true e = absurd (false≢true (cc))
+by-heir true false e = (refl, refl)
+by-heir false equal e = absurd (false≢true (cc))
+
+-- the same class is the one with the same number
+pub ancestry-same : (M : Model) (a b : ℕ) → (ancestry M a b ≡ same) ↔ (a ≡ b)
+unfolding ancestry ancestryBy
+ancestry-same M a b = (
+  λ e. eqb-true a b (by-same (subclass M a b) (eqb a b) e),
+  λ e. rw (e, subclass-itself M b, eq-eqb b b refl),
+)
+
+module _ (M : Model) (w : Wellformed M) (a b : ℕ) (h : a < M .classes) where
+  -- an heir is under the other class and is not that class
+  pub ancestry-heir : (ancestry M a b ≡ heir) ↔ (Under M a b × (a ≡ b → ⊥))
+  unfolding ancestry ancestryBy
+  ancestry-heir = (
+    λ e. let (t, d) = by-heir (subclass M a b) (eqb a b) e in (subclass-under M a b t, eqb-false a b d),
+    λ (u, d). rw (under-subclass M w a b h u, ne-eqb a b d),
+  )
+
+  -- and the two together are all that is under it
+  pub same-or-heir : ((ancestry M a b ≡ same) ⊎ (ancestry M a b ≡ heir)) ↔ Under M a b
+  unfolding isUnder
+  same-or-heir = (down, λ u. up (ancestry M a b) refl u)
+    where
+      down : (ancestry M a b ≡ same) ⊎ (ancestry M a b ≡ heir) → Under M a b
+      down (inl e) = rw (ancestry-same M a b .0 e) itself
+      down (inr e) = ancestry-heir .0 e .0
+
+      up : (r : Ancestry) → ancestry M a b ≡ r → Under M a b → (ancestry M a b ≡ same) ⊎ (ancestry M a b ≡ heir)
+      up same e u = inl e
+      up heir e u = inr e
+      up neither e u = absurd (false≢true (sym (sym (ancestry-under M a b) ∙ ap isUnder e) ∙ under-subclass M w a b h u))

@@ -8,10 +8,10 @@ use lib.ListN.{length, take, drop}
 use Rattle.rules.specs.Bounded.{upto, every}
 use Rattle.rules.specs.Layout.{Answer, gives, refuses, opening, codeAt, codeOf, require, tupleRule}
 use Rattle.rules.specs.Model.{Model, modelOf}
-use Rattle.rules.specs.Subclass.{subclass}
+use Rattle.rules.specs.Subclass.{Ancestry, ancestry}
 use Rattle.rules.specs.Bits.{bit}
 use Rattle.rules.specs.Scratch.{scratchBytes, matrixByte}
-use Rattle.rules.specs.Lookup.{Found, found, missing, ambiguous, lookup}
+use Rattle.rules.specs.Lookup.{Found, found, missing, ambiguous, lookup, exact}
 use Rattle.rules.specs.Types.{Static, inType, sendType}
 use Rattle.rules.specs.Coverage.{concreteClass, covers, judge, coverageRefusal, verdict}
 use Rattle.rules.specs.Machine.{Outcome, run}
@@ -47,22 +47,27 @@ unfoldable pub openingCall : List ℕ → Answer (List ℕ)
 openingCall b = opening b
 
 -- the ancestry call (M 4.2)
-unfoldable pub ancestryIn : ℕ → ℕ → Model → Answer Bool
-ancestryIn a c M = require (ltb a (M .classes) && ltb c (M .classes)) 18 (gives (subclass M a c))
+unfoldable pub ancestryIn : ℕ → ℕ → Model → Answer Ancestry
+ancestryIn a c M = require (ltb a (M .classes) && ltb c (M .classes)) 18 (gives (ancestry M a c))
 
-unfoldable pub ancestryCall : List ℕ → ℕ → ℕ → ℕ → Answer Bool
+unfoldable pub ancestryCall : List ℕ → ℕ → ℕ → ℕ → Answer Ancestry
 ancestryCall b scratch a c = withScratch b scratch (ancestryIn a c)
 
-unfoldable pub foundAnswer : ℕ → List ℕ → Found → Answer ℕ
-foundAnswer f tuple (found m) = gives m
-foundAnswer f tuple missing = refuses 10 (f ∷ tuple)
-foundAnswer f tuple (ambiguous m n) = refuses 11 (f ∷ tuple ++ m ∷ n ∷ [])
+-- A lookup that finds a method gives it, and whether it is exact (M 5.7).
+pub record Match : Type 0 where
+  pub method : ℕ
+  pub isExact : Bool
+
+unfoldable pub foundAnswer : Model → ℕ → List ℕ → Found → Answer Match
+foundAnswer M f tuple (found m) = gives (record { method = m; isExact = exact M (used M f tuple) m })
+foundAnswer M f tuple missing = refuses 10 (f ∷ tuple)
+foundAnswer M f tuple (ambiguous m n) = refuses 11 (f ∷ tuple ++ m ∷ n ∷ [])
 
 -- the lookup call; abstract classes are let through (M 5.6)
-unfoldable pub lookupIn : ℕ → List ℕ → Model → Answer ℕ
-lookupIn f tuple M = require (sendRule M f tuple) 18 (foundAnswer f tuple (lookup M f (used M f tuple)))
+unfoldable pub lookupIn : ℕ → List ℕ → Model → Answer Match
+lookupIn f tuple M = require (sendRule M f tuple) 18 (foundAnswer M f tuple (lookup M f (used M f tuple)))
 
-unfoldable pub lookupCall : List ℕ → ℕ → ℕ → List ℕ → Answer ℕ
+unfoldable pub lookupCall : List ℕ → ℕ → ℕ → List ℕ → Answer Match
 lookupCall b scratch f tuple = withScratch b scratch (lookupIn f tuple)
 
 unfoldable pub licensed : Static → Answer Static

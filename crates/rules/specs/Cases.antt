@@ -3,29 +3,30 @@
 use Prim.Native.Nat.{ℕ, _+_, _*_}
 use Prim.Native.String.{String}
 use mathlib.Core.Path.{_≡_}
-use mathlib.Core.Bool.{Bool, true, false}
+use mathlib.Core.Bool.{true, false}
 use mathlib.Core.List.{List, [], _∷_, _++_, map}
 use lib.Dec.{eqb}
 use lib.ListN.{length, replicate}
 use Rattle.rules.specs.Bounded.{upto, any}
 use Rattle.rules.specs.Layout.{Answer, gives, refuses}
 use Rattle.rules.specs.Model.{modelOf}
+use Rattle.rules.specs.Subclass.{Ancestry, same, heir, neither}
 use Rattle.rules.specs.Types.{Static}
 use Rattle.rules.specs.Machine.{Ending, value, spent, deep, stopped}
-use Rattle.rules.specs.Calls.{rowBytes, openingCall, ancestryCall, lookupCall, sendTypeCall, checkCall, witnessCall, bodyViewCall, bodyViewStart, runCall, rowAfter}
+use Rattle.rules.specs.Calls.{rowBytes, openingCall, ancestryCall, lookupCall, sendTypeCall, checkCall, witnessCall, bodyViewCall, bodyViewStart, runCall, rowAfter, Match}
 use Rattle.rules.specs.Scratch.{scratchBytes, matrixByte}
 use Rattle.rules.specs.Bits.{bit}
 use Rattle.rules.specs.Ascii.{ascii}
 use Rattle.rules.specs.Chart.{chartCall, bufferAfter}
 use Rattle.rules.specs.Rough.{Rough, one, mayFail, several, roughCall}
-use Rattle.rules.specs.Samples.{chart3, chart4, chart5, loop, oneClass, abstractArgument, narrowDeclared, wideResult, twoValues, abstractNew, noLicence, looseResult, twentyThreeBytes, directoryGap, emptySections, ownParent, fourArguments, absentResult, emptyBody, twinMethods, unknownOperation, noMethod, threeFaults, threeRivals, severalBroken, upperClasses}
+use Rattle.rules.specs.Samples.{chart3, chart4, chart5, loop, oneClass, abstractArgument, narrowDeclared, wideResult, twoValues, abstractNew, noLicence, looseResult, twentyThreeBytes, directoryGap, emptySections, ownParent, fourArguments, absentResult, emptyBody, twinMethods, unknownOperation, noMethod, threeFaults, threeRivals, severalBroken, upperClasses, exactMatch}
 
 -- A call on a bundle, with what it comes to. Scratch, row and buffer are large enough, but for `checksIn`, `typesIn` and `chartsIn`, which give their length.
 pub data Case : Type 0 where
   opens : List ℕ → Answer (List ℕ) → Case
   views : List ℕ → ℕ → List ℕ → ℕ → Case
-  asks : List ℕ → ℕ → ℕ → Bool → Case
-  finds : List ℕ → ℕ → List ℕ → Answer ℕ → Case
+  asks : List ℕ → ℕ → ℕ → Answer Ancestry → Case
+  finds : List ℕ → ℕ → List ℕ → Answer Match → Case
   checks : List ℕ → Answer (Unit {0}) → Case
   checksIn : List ℕ → ℕ → Answer (Unit {0}) → Case
   fills : List ℕ → List ℕ → Case
@@ -51,7 +52,7 @@ matrixOf (x ∷ xs) = x ∷ replicate 15 0 ++ matrixOf xs
 abbrev pub Stands : Case → Type 0
 Stands (opens b answer) = openingCall b ≡ answer
 Stands (views b m code start) = (bodyViewCall b m ≡ gives code) × (bodyViewStart b m ≡ start)
-Stands (asks b a c answer) = ancestryCall b scratchBytes a c ≡ gives answer
+Stands (asks b a c answer) = ancestryCall b scratchBytes a c ≡ answer
 Stands (finds b f tuple answer) = lookupCall b scratchBytes f tuple ≡ answer
 Stands (checks b answer) = checkCall b scratchBytes ≡ answer
 Stands (checksIn b n answer) = checkCall b n ≡ answer
@@ -69,14 +70,21 @@ abbrev pub AllStand : List Case → Type 0
 AllStand [] = Unit {0}
 AllStand (c ∷ cs) = Stands c × AllStand cs
 
+-- a method that is found, exact or not
+abbrev pub exactly : ℕ → Answer Match
+exactly m = gives (record { method = m; isExact = true })
+
+abbrev pub otherwise : ℕ → Answer Match
+otherwise m = gives (record { method = m; isExact = false })
+
 -- P 1 to P 11, in their order
 abbrev pub marked : List Case
 marked =
-    finds chart3 0 (1 ∷ 3 ∷ 0 ∷ []) (gives 2)
-    ∷ finds chart3 0 (1 ∷ 4 ∷ 0 ∷ []) (gives 0)
-    ∷ finds chart3 0 (2 ∷ 3 ∷ 0 ∷ []) (gives 1)
+    finds chart3 0 (1 ∷ 3 ∷ 0 ∷ []) (exactly 2)
+    ∷ finds chart3 0 (1 ∷ 4 ∷ 0 ∷ []) (exactly 0)
+    ∷ finds chart3 0 (2 ∷ 3 ∷ 0 ∷ []) (exactly 1)
     ∷ finds chart3 0 (2 ∷ 4 ∷ 0 ∷ []) (refuses 11 (0 ∷ 2 ∷ 4 ∷ 0 ∷ 1 ∷ 0 ∷ []))
-    ∷ finds chart4 0 (2 ∷ 4 ∷ 0 ∷ []) (gives 3)
+    ∷ finds chart4 0 (2 ∷ 4 ∷ 0 ∷ []) (exactly 3)
     ∷ checks chart4 (gives tt)
     ∷ runs chart4 0 (2 ∷ 4 ∷ 0 ∷ []) 1 (value 7) 1
     ∷ runs chart4 0 (2 ∷ 4 ∷ 0 ∷ []) 0 spent 0
@@ -92,8 +100,16 @@ worked =
     ∷ checks chart3 (refuses 11 (0 ∷ 0 ∷ 2 ∷ 4 ∷ 0 ∷ 1 ∷ 0 ∷ []))
     ∷ views chart3 0 (1 ∷ 6 ∷ []) 121
     ∷ views chart3 2 (1 ∷ 6 ∷ []) 125
-    ∷ asks chart3 2 1 true
-    ∷ asks chart3 1 2 false
+    ∷ asks chart3 2 2 (gives same)
+    ∷ asks chart3 2 1 (gives heir)
+    ∷ asks chart3 1 2 (gives neither)
+    ∷ asks chart3 2 3 (gives neither)
+    ∷ asks chart3 8 8 (refuses 18 [])
+    ∷ finds exactMatch 0 (2 ∷ 2 ∷ 0 ∷ []) (exactly 1)
+    ∷ finds exactMatch 0 (1 ∷ 2 ∷ 0 ∷ []) (otherwise 0)
+    ∷ finds exactMatch 0 (2 ∷ 1 ∷ 0 ∷ []) (otherwise 0)
+    ∷ finds exactMatch 0 (3 ∷ 3 ∷ 0 ∷ []) (otherwise 1)
+    ∷ finds exactMatch 1 (0 ∷ 0 ∷ 0 ∷ []) (exactly 2)
     ∷ witnesses chart4 0 (2 ∷ 4 ∷ 0 ∷ []) (gives tt)
     ∷ witnesses chart3 0 (2 ∷ 4 ∷ 0 ∷ []) (refuses 11 (0 ∷ 0 ∷ 2 ∷ 4 ∷ 0 ∷ 1 ∷ 0 ∷ []))
     ∷ checks oneClass (gives tt)

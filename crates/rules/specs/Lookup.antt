@@ -6,7 +6,7 @@ use mathlib.Core.List.{List, [], _∷_, reverse}
 use mathlib.Core.Option.{Option, none, some}
 use lib.Dec.{eqb}
 use lib.ListN.{length, getD, take}
-use Rattle.rules.specs.Bounded.{upto, every, keep, first}
+use Rattle.rules.specs.Bounded.{upto, every, keep, first, matching}
 use Rattle.rules.specs.Model.{Model}
 use Rattle.rules.specs.Subclass.{under}
 
@@ -60,3 +60,7 @@ select M (m ∷ ms) = leaderOr (first (leads M (m ∷ ms)) (m ∷ ms)) (rivals M
 
 unfoldable pub lookup : Model → ℕ → List ℕ → Found
 lookup M f args = select M (applicable M f args)
+
+-- the method is written for exactly these classes: place by place its specialiser is the same (M 5.7)
+unfoldable pub exact : Model → List ℕ → ℕ → Bool
+exact M args m = matching eqb args (M .specialisers m)

@@ -1,7 +1,7 @@
--- Ancestry (M 4): when a class is under a class, as a relation and as a test.
+-- Ancestry (M 4): when a class is under a class, as a relation and as a test, and how a class stands to another.
 -- Assumes nothing.
 use Prim.Native.Nat.{ℕ, zero, suc}
-use mathlib.Core.Bool.{Bool, _||_}
+use mathlib.Core.Bool.{Bool, true, false, _||_}
 use mathlib.Core.List.{List, List·Memᴰ}
 use lib.Dec.{eqb}
 use Rattle.rules.specs.Bounded.{any, matching}
@@ -24,3 +24,24 @@ subclass M a b = subclassWithin M (M .classes) a b
 -- each class of the first list is under the class at its place in the second
 unfoldable pub under : Model → List ℕ → List ℕ → Bool
 under M = matching (subclass M)
+
+-- A class is the same as another, an heir of it, which is under it and not the same, or neither (M 4.2).
+pub data Ancestry : Type 0 where
+  same : Ancestry
+  heir : Ancestry
+  neither : Ancestry
+
+-- what two tests come to: that the one class is under the other, and that their numbers are equal
+unfoldable pub ancestryBy : Bool → Bool → Ancestry
+ancestryBy true true = same
+ancestryBy true false = heir
+ancestryBy false equal = neither
+
+unfoldable pub ancestry : Model → ℕ → ℕ → Ancestry
+ancestry M a b = ancestryBy (subclass M a b) (eqb a b)
+
+-- the one class is under the other
+unfoldable pub isUnder : Ancestry → Bool
+isUnder same = true
+isUnder heir = true
+isUnder neither = false

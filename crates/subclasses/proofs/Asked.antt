@@ -5,20 +5,20 @@ use native.Mathlib.Omega.{arith}
 use mathlib.Core.Path.{_≡_, refl, sym, ap, ap₂, _∙_}
 use mathlib.Core.Bool.{Bool, true, _&&_}
 use mathlib.Core.List.{List, [], _∷_}
-use lib.Dec.{ltb}
+use lib.Dec.{eqb, ltb}
 use lib.ListN.{length, getD}
 use borrow.Author.Tests.{ltb-true}
 use Rattle.rules.specs.Bounded.{every, matching}
 use Rattle.rules.specs.Layout.{places, maxClasses}
 use Rattle.rules.specs.Model.{Model, modelOf, present}
-use Rattle.rules.specs.Subclass.{subclass, under}
+use Rattle.rules.specs.Subclass.{subclass, under, ancestryBy, ancestry}
 use Rattle.rules.specs.Scratch.{scratchBytes, classUnder, entryAt}
 use Rattle.rules.proofs.Lists.{every-place, and-left, and-right}
 use Rattle.rules.proofs.Scratch.{class-under}
 use Rattle.layout.specs.Opened.{Opened}
 use Rattle.layout.specs.declared.bundle.Bundle.{Bundle}
 use Rattle.layout.proofs.Opened.{wellformed-of, counts-of}
-use Rattle.subclasses.specs.Matrix.{Filled, filled, entriesAt}
+use Rattle.subclasses.specs.Matrix.{Filled, filled, ancestryAt, entriesAt}
 use Rattle.subclasses.specs.Prepared.{Prepared}
 use Rattle.subclasses.specs.Places.{Arguments, OfArity, InMatrix, Comparable}
 
@@ -85,6 +85,14 @@ module _ {b : List ℕ} {t : Bundle} {s : List ℕ} (p : Prepared b t s) where
   entry-subclass a c h k =
       let w = wellformed-of (p .opened) in
       filled-entry (p .filled) a c (omega (arith, w .classes-limit)) k ∙ class-under (modelOf b) w a c h
+
+  -- and how the one stands to the other
+  pub ancestry-entry : (a c : ℕ) → a < t .classes → c < t .classes → ancestryAt s a c ≡ ancestry (modelOf b) a c
+  unfolding ancestryAt ancestry
+  ancestry-entry a c h k =
+      let counts = counts-of (p .opened) in
+      let limit = wellformed-of (p .opened) .classes-limit in
+      ap (λ (u : Bool). ancestryBy u (eqb a c)) (entry-subclass a c (omega arith) (omega arith))
 
   entries-under : (xs ys : List ℕ) → present (modelOf b) xs ≡ true → present (modelOf b) ys ≡ true → entriesAt s xs ys ≡ under (modelOf b) xs ys
   unfolding entriesAt under matching

@@ -1,4 +1,5 @@
 pub mod Matrix
+pub mod Ancestry
 pub mod Prepared
 pub mod Places
 pub mod Send

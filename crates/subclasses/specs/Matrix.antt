@@ -4,17 +4,22 @@ use Prim.Native.Nat.{ℕ, _*_, _/_, _%_, _^_, _≤_, _<_}
 use mathlib.Core.Path.{_≡_}
 use mathlib.Core.Bool.{Bool, _&&_}
 use mathlib.Core.List.{List}
-use lib.Dec.{ltb}
+use lib.Dec.{eqb, ltb}
 use lib.ListN.{length}
 use Rattle.rules.specs.Bounded.{matching}
 use Rattle.rules.specs.Layout.{maxClasses}
 use Rattle.rules.specs.Model.{Model}
 use Rattle.rules.specs.Bits.{inSet}
+use Rattle.rules.specs.Subclass.{Ancestry, ancestryBy}
 use Rattle.rules.specs.Scratch.{scratchBytes, classUnder, entryAt}
 
 -- all of it is there, by its entries; a data type, so that proofs pass it on whole
 pub data Filled (M : Model) (s : List ℕ) : Type 0 where
   filled : scratchBytes ≤ length s → ((a c : ℕ) → a < maxClasses → c < maxClasses → entryAt s a c ≡ classUnder M a c) → Filled M s
+
+-- how a class stands to another by their entry and their numbers
+unfoldable pub ancestryAt : List ℕ → ℕ → ℕ → Ancestry
+ancestryAt s a c = ancestryBy (entryAt s a c) (eqb a c)
 
 -- the entries of two tuples, place by place
 unfoldable pub entriesAt : List ℕ → List ℕ → List ℕ → Bool

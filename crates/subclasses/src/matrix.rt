@@ -1,4 +1,4 @@
-// The subclass matrix: bit c mod 8, the lowest first, of byte 16·a + c / 8 of the scratch is 1 when class a is under class c. `fill` writes it and `under`
+// The subclass matrix: bit c mod 8, the lowest first, of byte 16·a + c / 8 of the scratch is 1 when class a is under class c. `fill` writes it and `ancestry_of`
 // asks it; nothing else knows how it is stored.
 use layout::bundle::Bundle;
 use layout::field::parent;
@@ -14,7 +14,8 @@ ghost use Rattle.rules.specs.Bits.{inSet};
 ghost use Rattle.rules.specs.Scratch.{scratchBytes, entryAt, matrixByte};
 ghost use Rattle.rules.specs.Calls.{overwrite};
 ghost use Rattle.layout.specs.Opened.{Opened};
-ghost use Rattle.subclasses.specs.Matrix.{RowOf, RowsTo, wordByte};
+ghost use Rattle.subclasses.specs.Matrix.{RowOf, RowsTo, wordByte, ancestryAt};
+ghost use Rattle.subclasses.specs.Ancestry.{ancestryOf};
 
 // The bytes of a row, and of the matrix.
 const ROW_BYTES: usize = Bundle::CLASSES / 8;
@@ -110,12 +111,40 @@ pub fn fill(bytes: &[u8], b: Bundle, scratch: &mut [u8])
     }
 }
 
-// The bit of class a under class c. In a scratch that holds the matrix of a model, it says whether a is under c.
+// How a class stands to another: the same class; an heir, which is under it and not the same; or neither.
+pub enum Ancestry {
+    Same,
+    Heir,
+    Neither,
+}
+
+// How class a stands to class c, in a scratch that holds the matrix of a model. The bit of the two is asked before their numbers are compared, so that a
+// caller to whom an heir is as good as the same class waits for no comparison.
+pub fn ancestry_of(scratch: &[u8], a: usize, c: usize) -> Ancestry
+    requires { ⌜ scratchBytes ≤ length (now scratch) ⌝ }
+    requires { ⌜ a < maxClasses ⌝ }
+    requires { ⌜ c < maxClasses ⌝ }
+    ensures { λ r. ⌜ ancestryOf r ≡ ancestryAt (now (scratch .entry)) a c ⌝ }
+{
+    let is_under = (scratch[ROW_BYTES * a + c / 8] >> (c % 8)) % 2 == 1;
+    if !is_under {
+        return Ancestry::Neither;
+    }
+    if a == c {
+        return Ancestry::Same;
+    }
+    Ancestry::Heir
+}
+
+// Whether class a is under class c, the same or an heir.
 pub fn under(scratch: &[u8], a: usize, c: usize) -> bool
     requires { ⌜ scratchBytes ≤ length (now scratch) ⌝ }
     requires { ⌜ a < maxClasses ⌝ }
     requires { ⌜ c < maxClasses ⌝ }
     ensures { λ r. ⌜ r ≡ entryAt (now (scratch .entry)) a c ⌝ }
 {
-    (scratch[ROW_BYTES * a + c / 8] >> (c % 8)) % 2 == 1
+    match ancestry_of(scratch, a, c) {
+        Ancestry::Same | Ancestry::Heir => true,
+        Ancestry::Neither => false,
+    }
 }

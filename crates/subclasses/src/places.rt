@@ -1,11 +1,14 @@
 // Classes compared place by place.
-use crate::matrix::under;
+use crate::matrix::Ancestry;
+use crate::matrix::ancestry_of;
 use crate::tuple::declared_classes;
 use layout::bundle::Bundle;
 use layout::bytes::byte_at;
 ghost use mathlib.Core.Path.{_≡_};
 ghost use mathlib.Core.Bool.{true};
+ghost use lib.Dec.{eqb};
 ghost use lib.ListN.{length};
+ghost use Rattle.rules.specs.Bounded.{matching};
 ghost use Rattle.rules.specs.Model.{modelOf, present};
 ghost use Rattle.rules.specs.Coverage.{declaredHold};
 ghost use Rattle.subclasses.specs.Prepared.{Prepared};
@@ -19,7 +22,26 @@ pub fn each_under(scratch: &[u8], classes: &[u8], above: &[u8]) -> bool
 {
     let mut i = 0;
     while i < classes.len() {
-        if !under(scratch, byte_at(classes, i), byte_at(above, i)) {
+        match ancestry_of(scratch, byte_at(classes, i), byte_at(above, i)) {
+            Ancestry::Same | Ancestry::Heir => {
+                i += 1;
+            }
+            Ancestry::Neither => {
+                return false;
+            }
+        }
+    }
+    true
+}
+
+// Whether each class of the one tuple is the same as the class at its place in the other.
+pub fn each_same(classes: &[u8], others: &[u8]) -> bool
+    requires { ⌜ length (now classes) ≡ length (now others) ⌝ }
+    ensures { λ r. ⌜ r ≡ matching eqb (now (classes .entry)) (now (others .entry)) ⌝ }
+{
+    let mut i = 0;
+    while i < classes.len() {
+        if classes[i] != others[i] {
             return false;
         }
         i += 1;

@@ -1,7 +1,8 @@
 // A static type as a row: byte c of its first 128 is 1 when class c is in the type, and later bytes are left alone.
 use layout::bundle::Bundle;
 use layout::bytes::byte_at;
-use subclasses::matrix::under;
+use subclasses::matrix::Ancestry;
+use subclasses::matrix::ancestry_of;
 ghost use mathlib.Core.Path.{_≡_};
 ghost use mathlib.Core.Bool.{true, cond};
 ghost use mathlib.Core.List.{[], _∷_};
@@ -49,10 +50,11 @@ fn join_byte(scratch: &[u8], c: usize, k: usize, old: u8) -> u8
     requires { ⌜ k < maxClasses ⌝ }
     ensures { λ r. ⌜ r ≡ cond (entryAt (now (scratch .entry)) c k) 1 old ⌝ }
 {
-    if under(scratch, c, k) {
-        return 1;
+    match ancestry_of(scratch, c, k) {
+        Ancestry::Same => 1,
+        Ancestry::Heir => 1,
+        Ancestry::Neither => old,
     }
-    old
 }
 
 // Joins class c's type to that of the row. All 128 entries are asked: those of absent classes are empty, and a test which are present would take longer.

@@ -3,7 +3,7 @@
 use crate::matrix::PAIRS;
 use crate::rivals::beaten_and_rivals;
 use crate::tally::Tally;
-use crate::{generate, opening, rough};
+use crate::{exact, generate, opening, rough};
 use builder::{hex, Parts, Random};
 use curiumtoad::{raw, Answer};
 use std::ops::Range;
@@ -127,7 +127,7 @@ impl Call {
         }
         match self {
             Call::Open => there_and_back::<Result<curiumtoad::Counts, curiumtoad::Refusal>>(reply),
-            Call::Ancestry(..) => there_and_back::<Result<bool, curiumtoad::Refusal>>(reply),
+            Call::Ancestry(..) => there_and_back::<Result<curiumtoad::Ancestry, curiumtoad::Refusal>>(reply),
             Call::Lookup(..) => there_and_back::<curiumtoad::Lookup>(reply),
             Call::Rough(..) => there_and_back::<curiumtoad::Rough>(reply),
             Call::SendType(..) => there_and_back::<curiumtoad::SendType>(reply),
@@ -291,6 +291,12 @@ impl Comparer {
         if bundle_2.bytes != Store::holding(bundle, lent.start).bytes {
             different.push("the bundle");
         }
+        // The numbers of a lookup on a bundle that opens, with scratch enough.
+        if let (&Call::Lookup(function, [a, b, c]), 0 | 10 | 11 | 18) = (call, number) {
+            if !exact::agrees(bundle, [function, a, b, c], library.reply) {
+                different.push("the match by the method's record");
+            }
+        }
         let mut peers = vec![("the library", library.reply, different)];
         if let Some(number_3) = number_3 {
             let fast = Answered { reply: (number_3, values_3), buffers: buffers_3 };
@@ -319,6 +325,10 @@ impl Comparer {
         match (call, number) {
             (Call::Run(..) | Call::RunAccepted(..), 0) => self.tally.count_run(values),
             (Call::Open, _) => self.count_opening(bundle, number, values[0] as usize),
+            (Call::Ancestry(..), 0) => self.tally.count_ancestry(values[0]),
+            (&Call::Lookup(function, arguments), 0) => {
+                self.tally.count_lookup(exact::kinds(bundle, function, arguments, values[0]));
+            }
             (&Call::Rough(function, uppers), 0) => {
                 self.tally.count_rough(rough::kinds(bundle, function, uppers, values));
             }

@@ -4,6 +4,7 @@
 #[derive(Clone, Debug, PartialEq)]
 pub enum Json {
     Null,
+    Truth(bool),
     Number(i64),
     Word(String),
     List(Vec<Json>),
@@ -36,6 +37,13 @@ impl Json {
     pub fn number(&self) -> Option<u64> {
         match self {
             Json::Number(number) => u64::try_from(*number).ok(),
+            _ => None,
+        }
+    }
+
+    pub fn truth(&self) -> Option<bool> {
+        match self {
+            Json::Truth(truth) => Some(*truth),
             _ => None,
         }
     }
@@ -74,10 +82,9 @@ fn value(rest: &mut &[u8]) -> Option<Json> {
             Some(Json::List(list))
         }
         b'"' => word(rest).map(Json::Word),
-        b'n' => {
-            *rest = rest.strip_prefix(b"null")?;
-            Some(Json::Null)
-        }
+        b'n' => named(rest, b"null", Json::Null),
+        b't' => named(rest, b"true", Json::Truth(true)),
+        b'f' => named(rest, b"false", Json::Truth(false)),
         _ => {
             let end = rest.iter().position(|byte| !b"-0123456789".contains(byte)).unwrap_or(rest.len());
             let digits = std::str::from_utf8(&rest[..end]).ok()?;
@@ -85,6 +92,12 @@ fn value(rest: &mut &[u8]) -> Option<Json> {
             digits.parse().ok().map(Json::Number)
         }
     }
+}
+
+/// A value that is written as a name.
+fn named(rest: &mut &[u8], name: &[u8], value: Json) -> Option<Json> {
+    *rest = rest.strip_prefix(name)?;
+    Some(value)
 }
 
 /// The first byte that is no space.

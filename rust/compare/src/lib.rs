@@ -4,6 +4,7 @@
 pub mod alike;
 pub mod calls;
 pub mod damage;
+pub mod exact;
 pub mod generate;
 pub mod hierarchy;
 pub mod json;

@@ -1,5 +1,6 @@
 //! What was seen.
 
+use crate::exact;
 use crate::matrix::PAIRS;
 use crate::rough::{self, KINDS, NARROWED};
 use std::fmt;
@@ -10,6 +11,9 @@ pub const NUMBERS: usize = 25;
 /// Scratches that have to be met, the first of them refused, the others filled.
 const SCRATCHES: [&str; 4] =
     ["of 2,047 bytes", "of 2,048 bytes", "of 2,049 to 16,383 bytes", "of 16,384 bytes or more"];
+
+/// What ancestry answers, in the order of the values. Each has to be met.
+const ANCESTRIES: [&str; 3] = ["neither", "the same class", "a proper heir"];
 
 /// How many methods in one bucket are many.
 const MANY: usize = 16;
@@ -29,6 +33,10 @@ pub struct Tally {
     pub by_call: Vec<(&'static str, [usize; NUMBERS])>,
     /// How many calls were lent a scratch of each kind.
     pub scratches: [usize; SCRATCHES.len()],
+    /// How many times ancestry gave each answer.
+    pub ancestries: [usize; ANCESTRIES.len()],
+    /// How many lookups that found a method were of each kind.
+    pub lookups: [usize; exact::KINDS.len()],
     /// How many ambiguous sends had three or more rivals.
     pub three_rivals: usize,
     /// How many ambiguous sends had a beaten method with a higher number than the second rival that is named.
@@ -72,6 +80,16 @@ impl Tally {
             filled && length >= PAIRS,
         ];
         add(&mut self.scratches, kinds);
+    }
+
+    /// Counts an answer of ancestry.
+    pub fn count_ancestry(&mut self, answer: u64) {
+        self.ancestries[answer as usize % ANCESTRIES.len()] += 1;
+    }
+
+    /// Counts a lookup that found a method by its kinds.
+    pub fn count_lookup(&mut self, kinds: exact::Kinds) {
+        add(&mut self.lookups, kinds);
     }
 
     /// Counts how a run of number 0 ended.
@@ -121,7 +139,7 @@ impl Tally {
     }
 
     /// The numbers 0 to 17 that no check gave, those from 18 on, which are not a check's own, that no call gave, and the kinds of
-    /// scratches, of ambiguous sends, of openings and of rough answers that no call met.
+    /// scratches, of answers of ancestry, lookup and rough calls, of ambiguous sends and of openings that no call met.
     pub fn never_seen(&self) -> Vec<String> {
         let seen = |number: usize| match number {
             0..=17 => self.checks[number] != 0,
@@ -137,10 +155,16 @@ impl Tally {
             (between, "twins with others of their bucket between them"),
         ];
         never.extend(kinds.into_iter().filter(|(count, _)| *count == 0).map(|(_, kind)| kind.to_string()));
-        let scratches = self.scratch_counts().into_iter().filter(|(count, _)| *count == 0);
-        never.extend(scratches.map(|(_, kind)| format!("a scratch {kind}")));
-        let rough = self.rough_counts().into_iter().chain(self.narrowed_counts());
-        never.extend(rough.filter(|(count, _)| *count == 0).map(|(_, kind)| format!("rough answer: {kind}")));
+        for (what, counts) in [
+            ("a scratch", self.scratch_counts()),
+            ("ancestry:", self.ancestry_counts()),
+            ("lookup:", self.lookup_counts()),
+            ("rough answer:", self.rough_counts()),
+            ("rough answer:", self.narrowed_counts()),
+        ] {
+            let unmet = counts.into_iter().filter(|(count, _)| *count == 0);
+            never.extend(unmet.map(|(_, kind)| format!("{what} {kind}")));
+        }
         for (number, counts) in [4, 7].into_iter().zip(self.off_by_one) {
             let places = PLACES.into_iter().zip(counts).filter(|(_, count)| *count == 0);
             never.extend(places.map(|(place, _)| format!("{number} off by one where {place}")));
@@ -151,6 +175,16 @@ impl Tally {
     /// How many calls were lent a scratch of each kind, with the kind's name.
     fn scratch_counts(&self) -> Vec<(usize, &'static str)> {
         self.scratches.into_iter().zip(SCRATCHES).collect()
+    }
+
+    /// How many times ancestry gave each answer, with the answer's name.
+    fn ancestry_counts(&self) -> Vec<(usize, &'static str)> {
+        self.ancestries.into_iter().zip(ANCESTRIES).collect()
+    }
+
+    /// How many lookups that found a method were of each kind, with the kind's name.
+    fn lookup_counts(&self) -> Vec<(usize, &'static str)> {
+        self.lookups.into_iter().zip(exact::KINDS).collect()
     }
 
     /// How many rough answers were of each kind, with the kind's name.
@@ -191,6 +225,8 @@ impl fmt::Display for Tally {
             writeln!(f, "  {name}: {}", seen.join(" "))?;
         }
         writeln!(f, "scratches: {}", listed(&self.scratch_counts()))?;
+        writeln!(f, "ancestry: {}", listed(&self.ancestry_counts()))?;
+        writeln!(f, "lookups that found a method: {}", listed(&self.lookup_counts()))?;
         let (three, above) = (self.three_rivals, self.beaten_above);
         writeln!(f, "ambiguous: {three} with three rivals or more, {above} with a beaten method above a named rival")?;
         let [before, between] = self.beside_twins;

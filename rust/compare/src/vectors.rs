@@ -180,8 +180,13 @@ fn expected(call: &Call, answer: &Json) -> Option<(u8, [u64; 8])> {
     match number {
         0 => match call {
             Call::Open => values = answer.get("values")?.numbers()?,
-            Call::Ancestry(..) => values.push((answer.get("answer")?.word()? == "yes") as u64),
-            Call::Lookup(..) => values.push(field("method").or(field("answer"))?),
+            Call::Ancestry(..) => values.push(match answer.get("answer")?.word()? {
+                "neither" => 0,
+                "same" => 1,
+                "heir" => 2,
+                _ => return None,
+            }),
+            Call::Lookup(..) => values.extend([field("method")?, answer.get("exact")?.truth()? as u64]),
             Call::Body(..) => values.extend([field("start")?, field("length")?]),
             Call::Chart(..) => values.push(field("length")?),
             Call::Rough(..) => match answer.get("answer")?.word()? {

@@ -25,7 +25,7 @@ impl Reply {
 /// ```
 /// use curiumtoad::{Answer, Lookup};
 ///
-/// let answer = Lookup::Found(3);
+/// let answer = Lookup::Found { method: 3, exact: true };
 /// assert_eq!(answer.reply().number, 0);
 /// assert_eq!(Lookup::of(answer.reply()), answer);
 /// ```
@@ -175,11 +175,23 @@ impl Answer for Result<Counts, Refusal> {
     }
 }
 
-impl Answer for Result<bool, Refusal> {
+/// How one class stands to another.
+#[derive(Clone, Copy, Debug, PartialEq, Eq)]
+pub enum Ancestry {
+    /// They are one class.
+    Same,
+    /// The first is under the second and is another class.
+    Heir,
+    /// The first is not under the second; the second may be under the first.
+    Neither,
+}
+
+impl Answer for Result<Ancestry, Refusal> {
     fn of(reply: Reply) -> Self {
         match (reply.number, reply.values[0]) {
-            (0, 0) => Ok(false),
-            (0, 1) => Ok(true),
+            (0, 0) => Ok(Ancestry::Neither),
+            (0, 1) => Ok(Ancestry::Same),
+            (0, 2) => Ok(Ancestry::Heir),
             (0, _) => never_given(reply),
             _ => Err(Refusal::of(reply)),
         }
@@ -187,7 +199,9 @@ impl Answer for Result<bool, Refusal> {
 
     fn reply(&self) -> Reply {
         match self {
-            Ok(under) => Reply::new(0, &[*under as u64]),
+            Ok(Ancestry::Neither) => Reply::new(0, &[0]),
+            Ok(Ancestry::Same) => Reply::new(0, &[1]),
+            Ok(Ancestry::Heir) => Reply::new(0, &[2]),
             Err(refusal) => refusal.reply(),
         }
     }
@@ -233,8 +247,8 @@ impl Answer for Option<usize> {
 /// The answer of a lookup.
 #[derive(Clone, Copy, Debug, PartialEq, Eq)]
 pub enum Lookup {
-    /// The send finds this method.
-    Found(u64),
+    /// The send finds this method; exact where each of its specialisers is the argument class at that place.
+    Found { method: u64, exact: bool },
     /// 10: no method applies.
     NoMethod(Sent),
     /// 11: no applicable method is at least as specific as every other; the two highest unbeaten ones, higher first.
@@ -246,17 +260,19 @@ pub enum Lookup {
 impl Answer for Lookup {
     fn of(reply: Reply) -> Self {
         let v = reply.values;
-        match reply.number {
-            0 => Lookup::Found(v[0]),
-            10 => Lookup::NoMethod(Sent::at(&v)),
-            11 => Lookup::Rivals(Sent::at(&v), [v[4], v[5]]),
+        match (reply.number, v[1]) {
+            (0, 0) => Lookup::Found { method: v[0], exact: false },
+            (0, 1) => Lookup::Found { method: v[0], exact: true },
+            (0, _) => never_given(reply),
+            (10, _) => Lookup::NoMethod(Sent::at(&v)),
+            (11, _) => Lookup::Rivals(Sent::at(&v), [v[4], v[5]]),
             _ => Lookup::Refused(Refusal::of(reply)),
         }
     }
 
     fn reply(&self) -> Reply {
         match self {
-            Lookup::Found(method) => Reply::new(0, &[*method]),
+            Lookup::Found { method, exact } => Reply::new(0, &[*method, *exact as u64]),
             Lookup::NoMethod(sent) => sent_reply(10, sent, &[]),
             Lookup::Rivals(sent, rivals) => sent_reply(11, sent, rivals),
             Lookup::Refused(refusal) => refusal.reply(),

@@ -15,7 +15,7 @@
 //! let bundle = std::fs::read("../../bundles/chart-4.bundle")?;
 //! let mut scratch = [0; SCRATCH];
 //! assert_eq!(check(&bundle, &mut scratch), Verdict::Accepted);
-//! assert_eq!(lookup(&bundle, &mut scratch, 0, [2, 4, 0]), Lookup::Found(3));
+//! assert_eq!(lookup(&bundle, &mut scratch, 0, [2, 4, 0]), Lookup::Found { method: 3, exact: true });
 //! # Ok::<(), std::io::Error>(())
 //! ```
 
@@ -23,14 +23,14 @@ mod answers;
 pub mod raw;
 
 pub use answers::{
-    AcceptedRun, Answer, BodyFault, BrokenBody, BrokenSignature, Chart, Counts, Ending, Fault, Finding, Lookup,
-    Refusal, Reply, Rough, Run, SendType, Sent, Verdict, Witness,
+    AcceptedRun, Ancestry, Answer, BodyFault, BrokenBody, BrokenSignature, Chart, Counts, Ending, Fault, Finding,
+    Lookup, Refusal, Reply, Rough, Run, SendType, Sent, Verdict, Witness,
 };
 
 use std::ops::Range;
 
 /// The version of the library's C functions that this crate declares.
-pub const VERSION: u32 = 3;
+pub const VERSION: u32 = 4;
 /// The least length of a scratch.
 pub const SCRATCH: usize = 2_048;
 /// The least length of a row.
@@ -65,36 +65,41 @@ pub fn open(bundle: &[u8]) -> Result<Counts, Refusal> {
     Answer::of(raw::reply(|values| raw::open(bundle, values)))
 }
 
-/// Whether class `a` is under class `b`: the same class, or one that inherits from it.
+/// How class `a` stands to class `b`: the same class, a proper heir of it, or neither.
 ///
 /// ```
-/// use curiumtoad::{ancestry, Refusal, SCRATCH};
+/// use curiumtoad::{ancestry, Ancestry, Refusal, SCRATCH};
 ///
 /// let bundle = std::fs::read("../../bundles/chart-3.bundle")?;
 /// let mut scratch = [0; SCRATCH];
-/// assert_eq!(ancestry(&bundle, &mut scratch, 4, 3), Ok(true));
-/// assert_eq!(ancestry(&bundle, &mut scratch, 3, 4), Ok(false));
+/// assert_eq!(ancestry(&bundle, &mut scratch, 4, 4), Ok(Ancestry::Same));
+/// assert_eq!(ancestry(&bundle, &mut scratch, 4, 3), Ok(Ancestry::Heir));
+/// assert_eq!(ancestry(&bundle, &mut scratch, 3, 4), Ok(Ancestry::Neither));
 /// assert_eq!(ancestry(&bundle, &mut scratch, 3, 8), Err(Refusal::Absent));
 /// // The bit for classes 4 and 3.
 /// assert_eq!(scratch[16 * 4] >> 3 & 1, 1);
 /// # Ok::<(), std::io::Error>(())
 /// ```
-pub fn ancestry(bundle: &[u8], scratch: &mut [u8], a: u64, b: u64) -> Result<bool, Refusal> {
+pub fn ancestry(bundle: &[u8], scratch: &mut [u8], a: u64, b: u64) -> Result<Ancestry, Refusal> {
     Answer::of(raw::reply(|values| raw::ancestry(bundle, scratch, a, b, values)))
 }
 
-/// The method that a send finds: of those that apply, the one that is at least as specific as all the rest. Where there is
-/// none, two rivals are named, applicable methods that no other one is at least as specific as: those with the highest
-/// numbers, the higher one first. Abstract classes are looked up too.
+/// The method that a send finds: of those that apply, the one that is at least as specific as all the rest. It is exact where
+/// its specialisers are the argument classes, as they always are without arguments. Where there is no such method, two rivals
+/// are named, applicable methods that no other one is at least as specific as: those with the highest numbers, the higher
+/// one first. Abstract classes are looked up too.
 ///
 /// ```
 /// use curiumtoad::{lookup, Lookup, Sent, SCRATCH};
 ///
 /// let bundle = std::fs::read("../../bundles/chart-3.bundle")?;
 /// let mut scratch = [0; SCRATCH];
-/// assert_eq!(lookup(&bundle, &mut scratch, 0, [1, 4, 0]), Lookup::Found(0));
+/// assert_eq!(lookup(&bundle, &mut scratch, 0, [1, 4, 0]), Lookup::Found { method: 0, exact: true });
 /// let sent = Sent { function: 0, arguments: [2, 4, 0] };
 /// assert_eq!(lookup(&bundle, &mut scratch, 0, [2, 4, 0]), Lookup::Rivals(sent, [1, 0]));
+/// // Method 1 is for class 2, and class 3 is under that.
+/// let bundle = std::fs::read("../../bundles/upper-classes.bundle")?;
+/// assert_eq!(lookup(&bundle, &mut scratch, 0, [3, 0, 0]), Lookup::Found { method: 1, exact: false });
 /// # Ok::<(), std::io::Error>(())
 /// ```
 pub fn lookup(bundle: &[u8], scratch: &mut [u8], function: u64, arguments: [u64; 3]) -> Lookup {

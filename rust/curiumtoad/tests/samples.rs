@@ -2,8 +2,8 @@
 
 use curiumtoad::{
     ancestry, body, chart, check, listing, lookup, open, rough, run, run_accepted, send_type, witness, AcceptedRun,
-    BodyFault, BrokenBody, BrokenSignature, Chart, Ending, Fault, Finding, Lookup, Refusal, Rough, Run, SendType, Sent,
-    Verdict, Witness, LINE, ROW, SCRATCH, TEXT,
+    Ancestry, BodyFault, BrokenBody, BrokenSignature, Chart, Ending, Fault, Finding, Lookup, Refusal, Rough, Run,
+    SendType, Sent, Verdict, Witness, LINE, ROW, SCRATCH, TEXT,
 };
 
 fn sample(name: &str) -> Vec<u8> {
@@ -135,7 +135,9 @@ fn absent_numbers_are_refused_whatever_their_width() {
     let mut scratch = [0; SCRATCH];
     for number in [8, 128, 256, 65_536, 1 << 32, (1 << 32) + 1, u64::MAX] {
         assert_eq!(body(&bundle, number), Err(Refusal::Absent));
-        assert_eq!(ancestry(&bundle, &mut scratch, number, 0), Err(Refusal::Absent));
+        for (a, b) in [(number, 0), (0, number), (number, number)] {
+            assert_eq!(ancestry(&bundle, &mut scratch, a, b), Err(Refusal::Absent));
+        }
         assert_eq!(lookup(&bundle, &mut scratch, 0, [1, number, 0]), Lookup::Refused(Refusal::Absent));
         assert_eq!(lookup(&bundle, &mut scratch, number, [1, 3, 0]), Lookup::Refused(Refusal::Absent));
         assert_eq!(lookup(&bundle, &mut scratch, 0, [1, 3, number]), Lookup::Refused(Refusal::Absent));
@@ -147,6 +149,39 @@ fn absent_numbers_are_refused_whatever_their_width() {
         assert_eq!(chart(&bundle, &mut scratch, &mut [], number, 0), Chart::Refused(Refusal::Absent));
         assert_eq!(chart(&bundle, &mut scratch, &mut [], 0, number), Chart::NoLine);
     }
+}
+
+/// Class 4 is under 3, and all classes are under 0.
+#[test]
+fn ancestry_on_the_samples() {
+    let bundle = sample("chart-3");
+    let asked = |a, b| ancestry(&bundle, &mut [0; SCRATCH], a, b);
+    for class in 0..8 {
+        assert_eq!(asked(class, class), Ok(Ancestry::Same));
+    }
+    for (heir, class) in [(4, 3), (3, 0), (4, 0)] {
+        assert_eq!(asked(heir, class), Ok(Ancestry::Heir));
+        assert_eq!(asked(class, heir), Ok(Ancestry::Neither));
+    }
+    assert_eq!((asked(4, 1), asked(1, 4)), (Ok(Ancestry::Neither), Ok(Ancestry::Neither)));
+}
+
+fn found(name: &str, arguments: [u64; 3]) -> Lookup {
+    lookup(&sample(name), &mut [0; SCRATCH], 0, arguments)
+}
+
+#[test]
+fn exact_methods_on_the_samples() {
+    // Its methods 0 and 1 are for classes 3 and 0, and for 0 and 2. Class 0 is abstract.
+    assert_eq!(found("several-broken", [3, 0, 0]), Lookup::Found { method: 0, exact: true });
+    assert_eq!(found("several-broken", [3, 1, 0]), Lookup::Found { method: 0, exact: false });
+    assert_eq!(found("several-broken", [0, 2, 0]), Lookup::Found { method: 1, exact: true });
+    assert_eq!(found("several-broken", [1, 2, 0]), Lookup::Found { method: 1, exact: false });
+    // The method declares class 1 and is for class 0.
+    assert_eq!(found("narrow-declared", [0, 0, 0]), Lookup::Found { method: 0, exact: true });
+    assert_eq!(found("narrow-declared", [1, 0, 0]), Lookup::Found { method: 0, exact: false });
+    assert_eq!(found("three-argument-tie", [0, 1, 1]), Lookup::Found { method: 0, exact: true });
+    assert_eq!(found("loop", [0; 3]), Lookup::Found { method: 0, exact: true });
 }
 
 fn roughly(name: &str, uppers: [u64; 3]) -> Rough {

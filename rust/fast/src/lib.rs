@@ -45,9 +45,9 @@ pub fn open(bundle: &[u8], values: &mut [u64; 8]) -> u8 {
     said(Tables::open(bundle).map(|tables| eight(&tables.counts())), values)
 }
 
-/// Whether class `a` is under class `b`: the number, and where it is 0 a 1 for yes.
+/// How class `a` stands to class `b`: the number, and where it is 0 a 1 for the same class, a 2 for a proper heir, else 0.
 pub fn ancestry(bundle: &[u8], scratch: &mut [u8], a: u64, b: u64, values: &mut [u64; 8]) -> u8 {
-    said(under(bundle, scratch, a, b).map(|under| eight(&[under.into()])), values)
+    said(related(bundle, scratch, a, b).map(|answer| eight(&[answer])), values)
 }
 
 /// Checks a bundle: its number, 0 where it is accepted, and the values.
@@ -75,12 +75,15 @@ fn said(answer: Result<[u64; 8], Broken>, values: &mut [u64; 8]) -> u8 {
     number
 }
 
-fn under(bundle: &[u8], scratch: &mut [u8], a: u64, b: u64) -> Result<bool, Broken> {
+fn related(bundle: &[u8], scratch: &mut [u8], a: u64, b: u64) -> Result<u64, Broken> {
     let tables = prepare(bundle, scratch)?;
     if a.max(b) >= tables.classes as u64 {
         return Err(Broken::new(18, &[]));
     }
-    Ok(tables.under(a as u8, b as u8))
+    if a == b {
+        return Ok(1);
+    }
+    Ok(if tables.under(a as u8, b as u8) { 2 } else { 0 })
 }
 
 fn verdict(bundle: &[u8], scratch: &mut [u8]) -> Result<(), Broken> {

@@ -3,6 +3,17 @@
 use crate::bundle::{Bundle, Method};
 use crate::Triple;
 
+/// How one class stands to another.
+#[derive(PartialEq, Eq)]
+pub enum Ancestry {
+    /// They are one class.
+    Same,
+    /// The one is under the other, which is another class.
+    Heir,
+    /// The one is not under the other.
+    Neither,
+}
+
 /// Which class is under which.
 pub struct Matrix {
     rows: Vec<[bool; 128]>,
@@ -25,9 +36,20 @@ impl Matrix {
         Matrix { rows }
     }
 
-    /// Whether class `a` is under class `b`; of an absent class, no.
+    /// How class `a` stands to class `b`.
+    pub fn ancestry(&self, a: usize, b: usize) -> Ancestry {
+        if a == b {
+            Ancestry::Same
+        } else if self.rows[a][b] {
+            Ancestry::Heir
+        } else {
+            Ancestry::Neither
+        }
+    }
+
+    /// Whether class `a` is under class `b`: that class or an heir of it.
     pub fn under(&self, a: usize, b: usize) -> bool {
-        a < self.rows.len() && self.rows[a][b]
+        self.ancestry(a, b) != Ancestry::Neither
     }
 
     /// Whether at each of the first `places` places the class is under the other.
@@ -50,6 +72,12 @@ impl Matrix {
             }
         }
     }
+}
+
+/// Whether the method is for exactly these classes: at each used place its specialiser is the same class.
+pub fn is_exact(bundle: &Bundle, matrix: &Matrix, method: &Method, tuple: Triple) -> bool {
+    let places = bundle.functions[method.function];
+    (0..places).all(|place| matrix.ancestry(tuple[place], method.specialisers[place]) == Ancestry::Same)
 }
 
 pub enum Found {

@@ -16,7 +16,7 @@ mod typing;
 
 use bundle::{Broken, Bundle};
 use coverage::Fault;
-use dispatch::{Found, Matrix};
+use dispatch::{Ancestry, Found, Matrix};
 use machine::Ending;
 use rough::Rough;
 
@@ -83,7 +83,7 @@ pub fn open(bundle: &[u8]) -> Reply {
     }
 }
 
-/// Whether class `a` is under class `b`.
+/// How class `a` stands to class `b`: 1 where they are the same, 2 where `a` is a proper heir of `b`, else 0.
 pub fn ancestry(bundle: &[u8], scratch: &mut [u8], a: u64, b: u64) -> Reply {
     let (bundle, matrix) = match prepare(bundle, scratch) {
         Err(refusal) => return refusal,
@@ -93,10 +93,14 @@ pub fn ancestry(bundle: &[u8], scratch: &mut [u8], a: u64, b: u64) -> Reply {
     if a >= bundle.classes.len() || b >= bundle.classes.len() {
         return Reply::new(ABSENT, &[]);
     }
-    Reply::new(0, &[matrix.under(a, b) as usize])
+    match matrix.ancestry(a, b) {
+        Ancestry::Neither => Reply::new(0, &[0]),
+        Ancestry::Same => Reply::new(0, &[1]),
+        Ancestry::Heir => Reply::new(0, &[2]),
+    }
 }
 
-/// The method that a send finds.
+/// The method that a send finds, and 1 where it is for exactly the classes of the send, else 0.
 pub fn lookup(bundle: &[u8], scratch: &mut [u8], function: u64, arguments: [u64; 3]) -> Reply {
     let (bundle, matrix) = match prepare(bundle, scratch) {
         Err(refusal) => return refusal,
@@ -107,7 +111,10 @@ pub fn lookup(bundle: &[u8], scratch: &mut [u8], function: u64, arguments: [u64;
         return Reply::new(ABSENT, &[]);
     }
     match dispatch::lookup(&bundle, &matrix, f, t) {
-        Found::One(method) => Reply::new(0, &[method]),
+        Found::One(method) => {
+            let exact = dispatch::is_exact(&bundle, &matrix, &bundle.methods[method], t);
+            Reply::new(0, &[method, exact as usize])
+        }
         Found::None => Reply::new(10, &[f, t[0], t[1], t[2]]),
         Found::Rivals(m, n) => Reply::new(11, &[f, t[0], t[1], t[2], m, n]),
     }

@@ -106,12 +106,56 @@ fn refused_scratches() {
 
 #[test]
 fn lookups() {
-    assert_eq!(looked_up(&chart_3(), 1, 3), reply(0, &[2]));
-    assert_eq!(looked_up(&chart_3(), 1, 4), reply(0, &[0]));
-    assert_eq!(looked_up(&chart_3(), 2, 3), reply(0, &[1]));
+    assert_eq!(looked_up(&chart_3(), 1, 3), reply(0, &[2, 1]));
+    assert_eq!(looked_up(&chart_3(), 1, 4), reply(0, &[0, 1]));
+    assert_eq!(looked_up(&chart_3(), 2, 3), reply(0, &[1, 1]));
     assert_eq!(looked_up(&chart_3(), 2, 4), reply(11, &[0, 2, 4, 0, 1, 0]));
-    assert_eq!(looked_up(&chart_4(), 2, 4), reply(0, &[3]));
+    assert_eq!(looked_up(&chart_4(), 2, 4), reply(0, &[3, 1]));
     assert_eq!(looked_up(&three_rivals(), 5, 0), reply(11, &[0, 5, 0, 0, 3, 1]));
+}
+
+/// A lookup adds 1 where the specialisers of the method are the arguments at all used places, abstract classes included.
+#[test]
+fn exact_matches() {
+    // The first place alone is the same; the second alone; both; the other way round.
+    assert_eq!(looked_up(&several_broken(), 3, 1), reply(0, &[0, 0]));
+    assert_eq!(looked_up(&several_broken(), 1, 2), reply(0, &[1, 0]));
+    assert_eq!(looked_up(&several_broken(), 1, 3), reply(0, &[3, 1]));
+    assert_eq!(looked_up(&several_broken(), 3, 0), reply(0, &[0, 1]));
+    assert_eq!(looked_up(&several_broken(), 0, 2), reply(0, &[1, 1]));
+    // There are no places that could differ.
+    assert_eq!(looked_up(&looping(), 0, 0), reply(0, &[0, 1]));
+    // Three places, of which one after the other has a class under that of the method.
+    let mut parts = chart_3();
+    parts.functions[0] = 3;
+    parts.signatures.clear();
+    parts.methods.truncate(1);
+    parts.methods[0].specialisers = [1, 3, 5];
+    let bundle = parts.bytes();
+    for (arguments, exact) in [([1, 3, 5], 1), ([2, 3, 5], 0), ([1, 4, 5], 0), ([1, 3, 6], 0), ([2, 4, 7], 0)] {
+        assert_eq!(plain::lookup(&bundle, &mut [7; SCRATCH], 0, arguments), reply(0, &[0, exact]), "{arguments:?}");
+    }
+}
+
+#[test]
+fn ancestries() {
+    let asked = |parts: &Parts, a, b| plain::ancestry(&parts.bytes(), &mut [7; SCRATCH], a, b);
+    let [neither, same, heir] = [0, 1, 2].map(|answer| reply(0, &[answer]));
+    for class in 0..8 {
+        assert_eq!(asked(&chart_3(), class, class), same);
+    }
+    assert_eq!(asked(&chart_3(), 4, 3), heir);
+    assert_eq!(asked(&chart_3(), 3, 4), neither);
+    assert_eq!(asked(&chart_3(), 4, 0), heir);
+    assert_eq!(asked(&chart_3(), 4, 1), neither);
+    // Class 5 has three parents, which are all under 1.
+    for above in 0..5 {
+        assert_eq!(asked(&three_rivals(), 5, above), heir);
+        assert_eq!(asked(&three_rivals(), above, 5), neither);
+    }
+    for (a, b) in [(8, 0), (0, 8), (8, 8), (8, 9), (128, 128), (1 << 32, 0), (u64::MAX, u64::MAX)] {
+        assert_eq!(asked(&chart_3(), a, b), reply(18, &[]), "{a} {b}");
+    }
 }
 
 #[test]

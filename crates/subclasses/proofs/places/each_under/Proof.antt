@@ -6,11 +6,15 @@ use mathlib.Core.Path.{_≡_, sym, ap₂, _∙_}
 use mathlib.Core.Bool.{true}
 use lib.ListN.{length, getD}
 use borrow.Author.Count.{below-none, below-more}
-use borrow.Author.Tests.{not-true, not-false}
+use borrow.Author.Needs.{needs}
 use Rattle.rules.specs.Bytes.{byte}
 use Rattle.rules.specs.Scratch.{entryAt}
+use Rattle.rules.specs.Subclass.{isUnder}
 use Rattle.rules.proofs.Lists.{matching-from, matching-broken}
 use Rattle.subclasses.specs.Matrix.{entriesAt}
+use Rattle.subclasses.specs.declared.matrix.Ancestry.the-variants.{Neither}
+use Rattle.subclasses.specs.Ancestry.{ancestryOf}
+use Rattle.subclasses.proofs.Told.{entry-set, entry-by}
 use Rattle.subclasses.proofs.places.each_under.Statement.{statement}
 use Rattle.subclasses.proofs.places.each_under.Tie as tie
 
@@ -22,35 +26,36 @@ Inv-loop scratch classes above i₀ i =
 abbrev μ-loop : tie.MeasureT-loop
 μ-loop scratch classes above i₀ i = length classes - i
 
-under-requires : tie.Need-under-requires Inv-loop μ-loop
+ancestry-of-requires : tie.Need-ancestry-of-requires Inv-loop μ-loop
 unfolding byte
-under-requires c κs =
+ancestry-of-requires c κs =
     let p = c .before .before .before .before .before .before .before .pre in
     let x = c .before .byte-at .ensures .0 in
     let y = c .byte-at2 .ensures .0 in
     (p .long, (rw x (p .lower _ (omega arith)), rw y (p .upper _ (omega arith))))
 
--- what `under` answers is the entry of place i
-met : (c : tie.After-under Inv-loop μ-loop)
+-- the entry that was asked is that of place i
+met : (c : tie.After-ancestry-of Inv-loop μ-loop)
     → let a = c .before .before .before .before .before .before .before .before .args in
     let i = c .before .before .before .before .loop .i in
-    c .under .result ≡ entryAt (a .scratch .now) (getD (a .classes .now) i 0) (getD (a .above .now) i 0)
+    entryAt (a .scratch .now) (c .before .before .byte-at .result) (c .before .byte-at2 .result)
+    ≡ entryAt (a .scratch .now) (getD (a .classes .now) i 0) (getD (a .above .now) i 0)
 unfolding byte
-met c =
-    let x = c .before .before .byte-at .ensures .0 in
-    let y = c .before .byte-at2 .ensures .0 in
-    c .under .ensures ∙ ap₂ (entryAt _) x y
-
-returns : tie.Need-returns Inv-loop μ-loop
-unfolding entriesAt
-returns c =
-    let s = c .before .before .before .before in
-    sym (matching-broken (entryAt _) _ _ 0 0 (s .before .loop .i) (s .loop-test .taken) (sym (met (c .before)) ∙ not-true _ (c .if1 .taken)))
+met c = ap₂ (entryAt _) (c .before .before .byte-at .ensures .0) (c .before .byte-at2 .ensures .0)
 
 loop-again : tie.Need-loop-again Inv-loop μ-loop
 loop-again c =
     let l = c .before .before .before .before .before .loop in
-    (omega arith, below-more _ _ (l .inv .1) (sym (met (c .before)) ∙ not-false _ (c .if1 .left)))
+    (omega arith, below-more _ _ (l .inv .1) (sym (met (c .before)) ∙ entry-set _ _ _ _ (c .before .ancestry-of .ensures) (c .match .keys1)))
+
+returns : tie.Need-returns Inv-loop μ-loop
+unfolding entriesAt isUnder ancestryOf
+returns c =
+    let q = c .before .before in
+    let s = q .before .before .before in
+    sym
+    (matching-broken (entryAt _) _ _ 0 0 (s .before .loop .i) (s .loop-test .taken)
+    (sym (met q) ∙ entry-by _ _ _ _ (q .ancestry-of .ensures) Neither (c .enum-told .given .1)))
 
 returns-2 : tie.Need-returns-2 Inv-loop μ-loop
 unfolding entriesAt
@@ -67,9 +72,10 @@ each-under-spec =
     (λ c. (omega arith, below-none _))
     (λ c κs. omega arith)
     (λ c κs. omega arith)
-    under-requires
-    returns
+    ancestry-of-requires
     (λ c. omega arith)
     (λ c. omega arith)
     loop-again
+    (λ c. search needs)
+    returns
     returns-2)
