@@ -7,18 +7,18 @@ use mathlib.Core.List.{List, [], _∷_}
 use mathlib.Core.Option.{Option, none, some}
 use lib.ListN.{length, getD}
 use Rattle.rules.specs.Layout.{gives, refuses, requireEach, classCount, functionCount, signatureCount, methodCount}
-use Rattle.bundle_rules.specs.declared.finding.Rule as rule-type
+use Rattle.answers.specs.declared.opening.Rule as rule-type
 use Rattle.bundle_rules.specs.declared.lowest.Lowest as lowest-type
-use Rattle.bundle_rules.specs.declared.finding.Rule.the-variants.{Code}
-use Rattle.bundle_rules.specs.Rules.{lowestOf, numberOfRule, lowestBroken, Presumed}
-use Rattle.bundle_rules.specs.Opening.{order, openingBy}
+use Rattle.answers.specs.declared.opening.Rule.the-variants.{Code}
+use Rattle.answers.specs.Opening.{ruleNumber}
+use Rattle.bundle_rules.specs.Rules.{lowestOf, lowestBroken, Presumed, order, openingBy}
 
 -- no record breaks one of the first i rules
 abbrev pub Kept : List rule-type.Rule → ℕ → List ℕ → Type 0
 Kept rules i b = (j : ℕ) → j < i → lowestBroken (getD rules j Code) b ≡ none
 
 pub first-broken : (rules : List rule-type.Rule) (i k : ℕ) (b : List ℕ) → i < length rules → Kept rules i b
-    → lowestBroken (getD rules i Code) b ≡ some k → openingBy rules b ≡ refuses (numberOfRule (getD rules i Code)) (k ∷ [])
+    → lowestBroken (getD rules i Code) b ≡ some k → openingBy rules b ≡ refuses (ruleNumber (getD rules i Code)) (k ∷ [])
 unfolding openingBy requireEach
 first-broken [] i k b l h e = absurd (omega arith)
 first-broken (rule ∷ rest) zero k b l h e = rw e

@@ -8,8 +8,8 @@ use mathlib.Core.List.{List}
 use mathlib.Core.Option.{some}
 use Rattle.rules.specs.Layout.{lowest, maxMethods}
 use Rattle.rules.proofs.Lists.{some-lowest}
-use Rattle.bundle_rules.specs.declared.finding.Rule as rule-type
-use Rattle.bundle_rules.specs.declared.finding.Rule.the-variants.{Class, Function, Signature, Method, Twin, Code}
+use Rattle.answers.specs.declared.opening.Rule as rule-type
+use Rattle.answers.specs.declared.opening.Rule.the-variants.{Class, Function, Signature, Method, Twin, Code}
 use Rattle.bundle_rules.specs.Rules.{countOf}
 use Rattle.layout.specs.declared.bundle.Bundle.{Bundle}
 use Rattle.layout.specs.Tables.{Placed}

@@ -3,25 +3,18 @@
 use Prim.Native.Nat.{ℕ}
 use mathlib.Core.Path.{_≡_}
 use mathlib.Core.Bool.{Bool}
-use mathlib.Core.List.{List}
+use mathlib.Core.List.{List, [], _∷_}
 use mathlib.Core.Option.{Option, none, some}
-use Rattle.rules.specs.Layout.{listLength, bodyLength, classRule, functionRule, signatureRule, methodRule, twinRule, codeRule, classCount, functionCount, signatureCount, methodCount, lowest}
+use Rattle.rules.specs.Layout.{Answer, gives, requireEach, listLength, bodyLength, classRule, functionRule, signatureRule, methodRule, twinRule, codeRule, classCount, functionCount, signatureCount, methodCount, lowest}
+use Rattle.answers.specs.Opening.{ruleNumber}
 use Rattle.bundle_rules.specs.declared.lowest.Lowest as lowest-type
 use Rattle.bundle_rules.specs.declared.lowest.Lowest.the-variants as outcome
-use Rattle.bundle_rules.specs.declared.finding.Rule as rule-type
-use Rattle.bundle_rules.specs.declared.finding.Rule.the-variants.{Class, Function, Signature, Method, Twin, Code}
+use Rattle.answers.specs.declared.opening.Rule as rule-type
+use Rattle.answers.specs.declared.opening.Rule.the-variants.{Class, Function, Signature, Method, Twin, Code}
 
 abbrev pub lowestOf : lowest-type.Lowest → Option ℕ
 lowestOf (outcome.At k) = some k
 lowestOf outcome.None = none
-
-abbrev pub numberOfRule : rule-type.Rule → ℕ
-numberOfRule Class = 4
-numberOfRule Function = 5
-numberOfRule Signature = 6
-numberOfRule Method = 7
-numberOfRule Twin = 8
-numberOfRule Code = 9
 
 abbrev pub ruleOf : rule-type.Rule → List ℕ → ℕ → Bool
 ruleOf Class = classRule
@@ -61,3 +54,12 @@ Presumed Signature b = Unit
 Presumed Method b = Unit
 Presumed Twin b = Unit
 Presumed Code b = lowestBroken Method b ≡ none
+
+-- the rules on records in the order of their numbers
+abbrev pub order : List rule-type.Rule
+order = Class ∷ Function ∷ Signature ∷ Method ∷ Twin ∷ Code ∷ []
+
+-- `opening` where only these rules are left to try
+unfoldable pub openingBy : List rule-type.Rule → List ℕ → Answer (List ℕ)
+openingBy [] b = gives (classCount b ∷ functionCount b ∷ signatureCount b ∷ methodCount b ∷ [])
+openingBy (rule ∷ rest) b = requireEach (lowestBroken rule b) (ruleNumber rule) (openingBy rest b)

@@ -1,4 +1,3 @@
 // Opening (M 3.1): the rules 1 to 9 in their order, each decided for the whole bundle before the next.
-pub mod finding;
 mod lowest;
 pub mod opening;

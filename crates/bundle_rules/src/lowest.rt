@@ -1,8 +1,8 @@
 // The search for the lowest record that breaks a rule. It goes through the records once, and carries from each to the next where the lists or bodies so far end.
-use crate::finding::Rule;
+use answers::opening::Rule;
 use layout::bundle::Bundle;
 use layout::record::body_length;
-use layout::record::list_length;
+use layout::record::parent_count;
 use record_rules::class::class_breaks;
 use record_rules::code::code_breaks;
 use record_rules::function::function_breaks;
@@ -64,7 +64,7 @@ fn list_or_body_length(bytes: &[u8], b: Bundle, rule: Rule, k: usize) -> usize
     ensures { λ r. ⌜ (r ≡ sizeOf rule (now (bytes .entry)) k) × (r < 65536) ⌝ }
 {
     match rule {
-        Rule::Class => list_length(bytes, b, k),
+        Rule::Class => parent_count(bytes, b, k),
         Rule::Function => 0,
         Rule::Signature => 0,
         Rule::Method => body_length(bytes, b, k),

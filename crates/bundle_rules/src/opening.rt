@@ -1,9 +1,9 @@
 // Opening: the rules in the order of their numbers.
-use crate::finding::LayoutFinding;
-use crate::finding::Opening;
-use crate::finding::Rule;
 use crate::lowest::Lowest;
 use crate::lowest::lowest_broken;
+use answers::opening::LayoutFinding;
+use answers::opening::Opening;
+use answers::opening::Rule;
 use directory_rules::directory::directory_holds;
 use directory_rules::limits::size_holds;
 use directory_rules::limits::within_limits;
@@ -13,8 +13,9 @@ ghost use mathlib.Core.Path.{_≡_};
 ghost use Prim.Native.Nat.{_<_};
 ghost use lib.ListN.{length, getD};
 ghost use Rattle.layout.specs.Tables.{Placed};
-ghost use Rattle.bundle_rules.specs.declared.finding.Rule.the-variants.{Code};
-ghost use Rattle.bundle_rules.specs.Opening.{said, order, openingBy, TablesOf, Opens};
+ghost use Rattle.answers.specs.declared.opening.Rule.the-variants.{Code};
+ghost use Rattle.answers.specs.Opening.{said, TablesOf, Opens};
+ghost use Rattle.bundle_rules.specs.Rules.{order, openingBy};
 
 // How many rules on records there are.
 const RULES: usize = 6;
@@ -56,14 +57,14 @@ pub fn open(bytes: &[u8]) -> Opening
     ensures { λ r. ⌜ Opens (now (bytes .entry)) r ⌝ }
 {
     if !size_holds(bytes) {
-        return Opening::Refused(LayoutFinding::Size);
+        return Opening::Refused(LayoutFinding::Length);
     }
     if !directory_holds(bytes) {
         return Opening::Refused(LayoutFinding::Directory);
     }
     let b = Bundle::of_directory(bytes);
     if !within_limits(bytes, b) {
-        return Opening::Refused(LayoutFinding::Limits);
+        return Opening::Refused(LayoutFinding::Counts);
     }
     records_opening(bytes, b)
 }

@@ -1,34 +1,17 @@
-// Blocks of numbers on standard input, and words on standard output.
+// Blocks of numbers on standard input.
 use libc::STDIN_FILENO;
-use libc::STDOUT_FILENO;
-ghost use Prim.Native.Nat.{_<_, _≤_};
+use test_support::buffer::byte;
+ghost use Prim.Native.Nat.{_≤_};
 
 // No block has more numbers.
 pub(crate) const NUMBERS: usize = 12;
-
-pub(crate) fn print(words: &[u8]) {
-    io::write_all(STDOUT_FILENO, words);
-}
-
-// A number of a line, after a space.
-pub(crate) fn print_number(number: u64) {
-    print(b" ");
-    io::print_decimal(STDOUT_FILENO, number);
-}
 
 // Reads so many bytes of standard input to the start of space, and answers whether there were so many and space holds them.
 pub(crate) fn read_first(space: &mut [u8], len: usize) -> bool {
     if len > space.len() {
         return false;
     }
-    io::read_full(STDIN_FILENO, &mut space[..len]) == len
-}
-
-// A byte as a number to count with.
-fn wide(x: u8) -> usize
-    ensures { λ r. ⌜ r < 256 ⌝ }
-{
-    x as usize
+    io::read_full(STDIN_FILENO, &mut space[0..len]) == len
 }
 
 // The numbers of a block, and whether the input had it whole. Those that the block leaves out are 0.
@@ -48,10 +31,10 @@ fn numbers_of(bytes: &[u8; 256], len: usize) -> [usize; NUMBERS]
         if k >= NUMBERS {
             return numbers;
         }
-        let byte = wide(bytes[i]);
+        let group = byte(bytes, i);
         i += 1;
-        numbers[k] = (numbers[k] << 7) | (byte & 127);
-        if byte < 128 {
+        numbers[k] = (numbers[k] << 7) | (group & 127);
+        if group < 128 {
             k += 1;
         }
     }
@@ -62,7 +45,7 @@ fn numbers_of(bytes: &[u8; 256], len: usize) -> [usize; NUMBERS]
 pub(crate) fn read_block() -> Block {
     let mut head = [0u8; 1];
     let has_head = read_first(&mut head, 1);
-    let len = wide(head[0]);
+    let len = byte(&head, 0);
     let mut bytes = [0u8; 256];
     let has_bytes = read_first(&mut bytes, len);
     Block {

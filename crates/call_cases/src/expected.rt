@@ -1,8 +1,8 @@
 // What a call has to answer and to leave.
 use crate::block::NUMBERS;
 use crate::block::read_first;
-use crate::lent::clear;
 use reply::Reply;
+use test_support::buffer::fill;
 
 // The reply, whether the matrix is in the scratch, and what is written to the row: bytes of the input, then zeros up to a place.
 pub(crate) struct Expected {
@@ -35,11 +35,9 @@ impl Expected {
         }
     }
 
-    // Makes an unwritten row the expected one, and answers whether the input had all of it.
+    // Makes a row the expected one, and answers whether the input had all of it.
     pub(crate) fn read_row(self, row: &mut [u8]) -> bool {
-        let written = self.written;
-        let is_whole = read_first(row, written);
-        clear(row, written, self.zeros_to);
-        is_whole
+        fill(row, self.zeros_to);
+        read_first(row, self.written)
     }
 }

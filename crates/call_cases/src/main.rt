@@ -11,26 +11,27 @@ mod readings;
 mod replies;
 mod tally;
 
-use block::print;
 use block::read_block;
 use block::read_first;
 use bytes::copy;
 use call::Call;
 use expected::Expected;
-use lent::SCRATCH;
+use lent::ROW;
 use lent::complement;
-use lent::fill;
 use lent::read_matrix;
 use lent::unwritten_row;
 use replies::UNLENT;
 use replies::alone;
-use replies::is_same;
-use replies::print_reply;
 use reply::Reply;
 use tally::TALLIES;
 use tally::count;
 use tally::print_differs;
 use tally::print_tallies;
+use test_support::buffer::SCRATCH;
+use test_support::buffer::fill;
+use test_support::print::print;
+use test_support::replies::is_same;
+use test_support::replies::print_reply;
 
 // What came of a call: its reply, and whether row and scratch are as they have to be.
 struct Observed {
@@ -66,7 +67,7 @@ fn replied(call: Call, bundle: &[u8], scratch: &mut [u8], row: &mut [u8]) -> Rep
     if row_len > row.len() {
         return alone(UNLENT);
     }
-    call.reply(bundle, &mut scratch[..scratch_len], &mut row[..row_len])
+    call.reply(bundle, &mut scratch[0..scratch_len], &mut row[0..row_len])
 }
 
 // Makes a call on an unwritten scratch and row, and compares them afterwards with what it has to leave.
@@ -113,7 +114,7 @@ fn run_call(
     let answered_numbers = answered.numbers;
     let call = Call::of_numbers(asked_numbers);
     let expected = Expected::of_numbers(answered_numbers);
-    let mut left_row = unwritten_row();
+    let mut left_row = [0u8; ROW];
     if !expected.read_row(&mut left_row) {
         return false;
     }
@@ -171,7 +172,7 @@ fn run_bundle(
     }
     complement(unwritten, matrix);
     run_calls(
-        &space[..len],
+        &space[0..len],
         unwritten,
         matrix,
         scratch,
@@ -204,8 +205,7 @@ fn main() {
     let mut matrix = [0u8; SCRATCH];
     let mut scratch = [0u8; SCRATCH];
     let mut tallies = [0u64; TALLIES];
-    fill(&mut unwritten);
-    fill(&mut matrix);
+    fill(&mut unwritten, 0);
     run_all(
         &mut space,
         &mut unwritten,

@@ -2,7 +2,6 @@
 use crate::replies::UNLENT;
 use crate::replies::UNLIKE;
 use crate::replies::alone;
-use crate::replies::is_same;
 use bytes::copy;
 use curiumtoad::instruction::InstructionAnswer;
 use curiumtoad::instruction::nth_instruction;
@@ -13,6 +12,7 @@ use reader::nth_reading;
 use reader::place_after;
 use reader::read_at;
 use reply::Reply;
+use test_support::replies::is_same;
 
 // The record of a refusal and the length of the part, which is copied to the row.
 pub(crate) fn view_reply(bundle: &[u8], row: &mut [u8], method: usize) -> Reply {

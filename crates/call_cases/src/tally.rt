@@ -1,6 +1,7 @@
 // How many calls there were of each entry point, and how many of them differed.
-use crate::block::print;
-use crate::block::print_number;
+use test_support::counts::add_one;
+use test_support::print::print;
+use test_support::print::print_count;
 ghost use Prim.Native.Nat.{_<_};
 
 // The entry points, in the order of their codes.
@@ -33,18 +34,10 @@ fn print_entry(entry: usize) {
 
 // The start of the line for a call that differs, which is the next to be counted.
 pub(crate) fn print_differs(tallies: &[u64; TALLIES], entry: usize) {
-    print(b"differs");
-    print_number(tallies[ALL]);
+    print_count(b"differs ", tallies[ALL]);
     print(b" ");
     print_entry(entry);
     print(b" got");
-}
-
-fn add_one(tallies: &mut [u64; TALLIES], k: usize)
-    requires { ⌜ k < 29 ⌝ }
-{
-    // No run comes near the end of these counts.
-    tallies[k] = std::num::wrapping_add_u64(tallies[k], 1);
 }
 
 pub(crate) fn count(tallies: &mut [u64; TALLIES], entry: usize, is_same: bool) {
@@ -58,15 +51,19 @@ pub(crate) fn count(tallies: &mut [u64; TALLIES], entry: usize, is_same: bool) {
     }
 }
 
+fn print_tally(tallies: &[u64; TALLIES], entry: usize)
+    requires { ⌜ entry < 14 ⌝ }
+{
+    print_entry(entry);
+    print_count(b" cases ", tallies[entry]);
+    print_count(b" differing ", tallies[ENTRIES + entry]);
+    print(b"\n");
+}
+
 pub(crate) fn print_tallies(tallies: &[u64; TALLIES]) {
     let mut entry = 0;
     while entry < ENTRIES {
-        print_entry(entry);
-        print(b" cases");
-        print_number(tallies[entry]);
-        print(b" differing");
-        print_number(tallies[ENTRIES + entry]);
-        print(b"\n");
+        print_tally(tallies, entry);
         entry += 1;
     }
 }

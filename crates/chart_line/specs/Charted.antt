@@ -4,10 +4,11 @@ use Prim.Native.Nat.{ℕ, _≤_, _<_}
 use mathlib.Core.Path.{_≡_}
 use mathlib.Core.List.{List, []}
 use lib.ListN.{length}
+use Rattle.rules.specs.Numbers as numbers
 use Rattle.rules.specs.Layout.{Answer, gives, refuses}
 use Rattle.rules.specs.Model.{Model}
 use Rattle.rules.specs.Chart.{concretes}
-use Rattle.calls.specs.Said.{refusalSaid}
+use Rattle.answers.specs.Refusals.{refusalSaid}
 use Rattle.chart_line.specs.declared.line.ChartAnswer.{ChartAnswer}
 use Rattle.chart_line.specs.declared.line.ChartAnswer.the-variants.{Written, Refused, NotBinary, NoLine, Short}
 
@@ -21,9 +22,9 @@ pub record Charted (M : Model) (f : ℕ) (classes : List ℕ) (k : ℕ) : Type 0
 abbrev pub chartSaid : ChartAnswer → Answer ℕ
 chartSaid (Written n) = gives n
 chartSaid (Refused r) = refusalSaid r
-chartSaid NotBinary = refuses 21 []
-chartSaid NoLine = refuses 22 []
-chartSaid Short = refuses 23 []
+chartSaid NotBinary = refuses numbers.notBinary []
+chartSaid NoLine = refuses numbers.noLine []
+chartSaid Short = refuses numbers.shortLine []
 
 -- the line itself is in the buffer: the answer says how long it is
 abbrev pub lengthSaid : Answer (List ℕ) → Answer ℕ

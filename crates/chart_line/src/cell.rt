@@ -1,4 +1,5 @@
 // What stands in the four places of a column or of a line's heading.
+use answers::failure::NotFound;
 use dispatch::lookup::lookup;
 use dispatch::select::Found;
 use layout::bundle::Bundle;
@@ -10,6 +11,7 @@ ghost use Rattle.rules.specs.Model.{Model, modelOf};
 ghost use Rattle.rules.specs.Chart.{concretes, digitAt, number, entry, heading, cell};
 ghost use Rattle.subclasses.specs.Prepared.{Prepared};
 ghost use Rattle.dispatch.specs.Index.{Indexed};
+ghost use Rattle.answers.specs.Failures.{notFound};
 ghost use Rattle.dispatch.specs.Found.{foundOf};
 ghost use Rattle.chart_line.specs.Charted.{Charted};
 
@@ -36,14 +38,23 @@ fn number(n: usize) -> [u8; 4]
     ]
 }
 
+// What stands for a send that finds no method.
+fn unfound(failed: NotFound) -> [u8; 4]
+    ensures { λ r. ⌜ r ≡ entry (notFound failed) ⌝ }
+{
+    match failed {
+        NotFound::Missing => [b' ', b' ', b' ', b'-'],
+        NotFound::Ambiguous(_, _) => [b' ', b' ', b' ', b'*'],
+    }
+}
+
 // What a send finds.
 fn entry(found: Found) -> [u8; 4]
     ensures { λ r. ⌜ r ≡ entry (foundOf found) ⌝ }
 {
     match found {
         Found::Method(m) => number(m),
-        Found::Missing => [b' ', b' ', b' ', b'-'],
-        Found::Ambiguous(_, _) => [b' ', b' ', b' ', b'*'],
+        Found::Fails(failed) => unfound(failed),
     }
 }
 

@@ -2,8 +2,8 @@
 use crate::cell::cell;
 use crate::cell::heading;
 use crate::concrete::concrete_classes;
+use answers::refusal::Refusal;
 use bytes::copy;
-use calls::refusal::Refusal;
 use dispatch::index::index_methods;
 use layout::bundle::Bundle;
 use layout::field::arity;

@@ -1,1 +1,1 @@
-pub mod Violations
+pub mod Signatures

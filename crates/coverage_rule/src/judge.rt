@@ -1,4 +1,5 @@
 // The coverage rule for one tuple of a signature.
+use answers::failure::Failure;
 use dispatch::index::index_methods;
 use dispatch::lookup::lookup;
 use dispatch::select::Found;
@@ -6,9 +7,9 @@ use layout::bundle::Bundle;
 use layout::field::result;
 use layout::field::sig_function;
 use layout::field::sig_result;
+use layout::tuple::declared_classes;
 use subclasses::matrix::under;
 use subclasses::places::each_under;
-use subclasses::tuple::declared_classes;
 ghost use mathlib.Core.Path.{_≡_};
 ghost use mathlib.Core.Bool.{true};
 ghost use Prim.Native.Nat.{_<_};
@@ -16,19 +17,16 @@ ghost use lib.ListN.{length};
 ghost use Rattle.rules.specs.Model.{modelOf, present};
 ghost use Rattle.rules.specs.Lookup.{found, lookup};
 ghost use Rattle.rules.specs.Coverage.{judgeFound, judge, failing};
+ghost use Rattle.layout.specs.Arity.{OfArity};
 ghost use Rattle.subclasses.specs.Prepared.{Prepared};
-ghost use Rattle.subclasses.specs.Places.{Arguments, OfArity};
+ghost use Rattle.subclasses.specs.Places.{Arguments};
 ghost use Rattle.dispatch.specs.Found.{foundOf};
 ghost use Rattle.coverage_rule.specs.Judgements.{judgementOf};
 
-// The rule holds with a method; none applies, 10; two rivals, 11; a declared class does not hold its argument, 12; nor the signature's result class the
-// method's, 13.
+// The rule holds with a method, or fails.
 pub enum Judgement {
     Holds(usize),
-    Missing,
-    Ambiguous(usize, usize),
-    Declared(usize),
-    Result(usize),
+    Fails(Failure),
 }
 
 // The rule for a tuple for which lookup finds method m: its declared classes are asked before its result class.
@@ -48,10 +46,10 @@ fn judge_method(
 {
     let declared = declared_classes(bytes, b, args.len(), m);
     if !each_under(scratch, args, declared) {
-        return Judgement::Declared(m);
+        return Judgement::Fails(Failure::Declared(m));
     }
     if !under(scratch, result(bytes, b, m), sig_result(bytes, b, s)) {
-        return Judgement::Result(m);
+        return Judgement::Fails(Failure::Result(m));
     }
     Judgement::Holds(m)
 }
@@ -72,8 +70,7 @@ pub fn judge_found(
     ensures { λ r. ⌜ judgementOf r ≡ judge (modelOf (now (bytes .entry))) s (now (args .entry)) ⌝ }
 {
     match found {
-        Found::Missing => Judgement::Missing,
-        Found::Ambiguous(m, o) => Judgement::Ambiguous(m, o),
+        Found::Fails(failed) => Judgement::Fails(Failure::Lookup(failed)),
         Found::Method(m) => judge_method(bytes, b, scratch, s, args, m),
     }
 }
@@ -97,9 +94,6 @@ pub fn fails(j: Judgement) -> bool
 {
     match j {
         Judgement::Holds(_) => false,
-        Judgement::Missing => true,
-        Judgement::Ambiguous(_, _) => true,
-        Judgement::Declared(_) => true,
-        Judgement::Result(_) => true,
+        Judgement::Fails(_) => true,
     }
 }

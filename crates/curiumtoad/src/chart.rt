@@ -1,9 +1,9 @@
 // The chart of a function of two arguments, a line at a time.
+use answers::refusal::Refusal;
 pub use chart_line::line::ChartAnswer;
 use chart_line::line::chart_in;
-use preparation::prepare::Preparation;
-use preparation::prepare::prepare;
-use preparation::prepare::refusal;
+use preparation::begin::Beginning;
+use preparation::begin::begin;
 ghost use mathlib.Core.Path.{_≡_};
 ghost use lib.ListN.{length};
 ghost use Rattle.rules.specs.Calls.{scratchAfter};
@@ -22,9 +22,9 @@ pub fn chart(
     ensures { λ r. ⌜ now (scratch .exit) ≡ scratchAfter (now (bundle .entry)) (now (scratch .entry)) ⌝ }
     ensures { λ r. ⌜ now (text .exit) ≡ bufferAfter (now (bundle .entry)) (length (now (scratch .entry))) (now (text .entry)) function line ⌝ }
 {
-    let prepared = prepare(bundle, scratch);
-    let Preparation::Ready(b) = prepared else {
-        return ChartAnswer::Refused(refusal(prepared));
-    };
-    chart_in(bundle, b, scratch, function, line, text)
+    match begin(bundle, scratch) {
+        Beginning::Ready(b) => chart_in(bundle, b, scratch, function, line, text),
+        Beginning::Unopened(found) => ChartAnswer::Refused(Refusal::Layout(found)),
+        Beginning::ShortScratch => ChartAnswer::Refused(Refusal::Scratch),
+    }
 }

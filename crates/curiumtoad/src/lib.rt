@@ -1,19 +1,19 @@
 // The entry points: whatever is passed, an answer comes back. Each opens the bundle first, refuses in the order of the rules' numbers, and leaves the work to
-// the layers below. The types of their answers are passed on from those layers, and so are the entry points that have a crate of their own there.
+// the layers below, from which the types of their answers are passed on.
 pub mod ancestry;
 pub mod chart;
+pub mod check;
+pub mod checked_run;
+pub mod instruction;
 pub mod lookup;
+pub mod opening;
 pub mod rough;
+pub mod run;
+pub mod run_accepted;
 pub mod send_type;
+pub mod view;
 pub mod witness;
 
-pub use calls::refusal::Refusal;
-pub use method_code::instruction;
-pub use method_code::view;
-pub use preparation::opening;
-pub use sound_runs::check;
-pub use sound_runs::checked_run;
-pub use sound_runs::run;
-pub use sound_runs::run_accepted;
-pub use subclasses::send::Send;
-pub use subclasses::send::Tuple;
+pub use answers::refusal::Refusal;
+pub use answers::send::Send;
+pub use answers::send::Tuple;

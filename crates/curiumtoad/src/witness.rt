@@ -1,25 +1,25 @@
 // The witness check: the coverage rule for one signature and one tuple.
-pub use calls::witness::CoverageFinding;
-pub use calls::witness::WitnessAnswer;
-use calls::witness::witness_in;
-use preparation::prepare::Preparation;
-use preparation::prepare::prepare;
-use preparation::prepare::refusal;
-use subclasses::send::Tuple;
+pub use answers::finding::CoverageFinding;
+use answers::refusal::Refusal;
+use answers::send::Tuple;
+use preparation::begin::Beginning;
+use preparation::begin::begin;
+pub use verdicts::witness::WitnessAnswer;
+use verdicts::witness::witness_in;
 ghost use mathlib.Core.Path.{_≡_};
 ghost use lib.ListN.{length};
 ghost use Rattle.rules.specs.Calls.{witnessCall, scratchAfter};
-ghost use Rattle.subclasses.specs.Send.{classesOf};
-ghost use Rattle.calls.specs.Said.{witnessSaid};
+ghost use Rattle.answers.specs.Send.{classesOf};
+ghost use Rattle.verdicts.specs.Said.{witnessSaid};
 
 // The coverage rule's answer for a signature and a tuple of concrete classes that it covers.
 pub fn witness(bundle: &[u8], scratch: &mut [u8], signature: usize, tuple: Tuple) -> WitnessAnswer
     ensures { λ r. ⌜ witnessSaid r ≡ witnessCall (now (bundle .entry)) (length (now (scratch .entry))) signature (classesOf tuple) ⌝ }
     ensures { λ r. ⌜ now (scratch .exit) ≡ scratchAfter (now (bundle .entry)) (now (scratch .entry)) ⌝ }
 {
-    let prepared = prepare(bundle, scratch);
-    let Preparation::Ready(b) = prepared else {
-        return WitnessAnswer::Refused(refusal(prepared));
-    };
-    witness_in(bundle, b, scratch, signature, tuple)
+    match begin(bundle, scratch) {
+        Beginning::Ready(b) => witness_in(bundle, b, scratch, signature, tuple),
+        Beginning::Unopened(found) => WitnessAnswer::Refused(Refusal::Layout(found)),
+        Beginning::ShortScratch => WitnessAnswer::Refused(Refusal::Scratch),
+    }
 }

@@ -3,13 +3,16 @@
 use Prim.Native.Nat.{ℕ}
 use mathlib.Core.Path.{_≡_, refl, ap, _∙_}
 use mathlib.Core.List.{List}
-use Rattle.rules.specs.Layout.{Answer, gives, refuses}
-use Rattle.calls.specs.Said.{blank}
+use lib.ListN.{length}
+use borrow.Author.Tests.{le-leb, lt-leb}
+use Rattle.rules.specs.Layout.{Answer, gives, refuses, require}
+use Rattle.lines.specs.Text as text
+use Rattle.questions.specs.Said.{blank}
 use Rattle.reply.specs.declared.Reply.{Reply}
 use Rattle.reply.specs.Replies.{reply, nothing}
 use Rattle.text.specs.declared.listing.ListingAnswer.{ListingAnswer}
 use Rattle.text.specs.declared.listing.ListingAnswer.the-variants as listing
-use Rattle.text.specs.Listed.{Told, listingReply}
+use Rattle.text.specs.Listed.{Told, Lists, listingCall, listingAfter, listingSaid, listingReply}
 use Rattle.curiumtoad_c.specs.Exported.{Handed}
 
 pub handed-as : {x y : Reply} {number : ℕ} {values : List ℕ} → x ≡ y → Handed x number values → Handed y number values
@@ -29,7 +32,13 @@ pub handed-blank : {A : Type 0} (call : Answer A) {said : Answer (Unit {0})} {x 
     → Handed x number values → Handed (reply nothing call) number values
 handed-blank call e q h = handed-as (q ∙ ap (reply nothing) e ∙ blank-reply call) h
 
--- a listing that is written has no number
+-- a listing in a buffer as its call
+pub listed : (b : List ℕ) {old new : List ℕ} (r : ListingAnswer) → Lists b old new r → (listingSaid r ≡ listingCall b (length old)) × (new ≡ listingAfter b old)
+unfolding listingCall listingAfter require
+listed b {old} (listing.Written n) w = let (e, h, q) = w .written in (rw (e, le-leb (length (text.listing b)) (length old) h), rw (le-leb (length (text.listing b)) (length old) h) q)
+listed b {old} listing.Short w = let (h, q) = w .written in (rw (lt-leb (length (text.listing b)) (length old) h), rw (lt-leb (length (text.listing b)) (length old) h) q)
+
+-- one that is written has no number
 pub told-number : (a : ListingAnswer) {number : ℕ} {values : List ℕ} → Told a → Handed (listingReply a) number values → number ≡ 0
 told-number (listing.Written n) t (e, _) = e
 told-number listing.Short t h = absurd t

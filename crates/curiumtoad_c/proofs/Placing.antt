@@ -8,8 +8,8 @@ use Rattle.rules.proofs.Opening.{opened-rules}
 use Rattle.rules.proofs.Places.{code-length}
 use Rattle.layout.specs.declared.bundle.Bundle.{Bundle}
 use Rattle.layout.specs.declared.field.Span.{Span}
-use Rattle.bundle_rules.specs.declared.finding.Opening.the-variants as answer
-use Rattle.bundle_rules.specs.Opening.{Opens}
+use Rattle.answers.specs.declared.opening.Opening.the-variants as answer
+use Rattle.answers.specs.Opening.{Opens}
 use Rattle.layout.specs.Bodies.{BodySpan}
 use Rattle.reply.specs.Replies.{numbered}
 use Rattle.curiumtoad_c.specs.Exported.{placed}

@@ -1,5 +1,6 @@
 // Where a method's code lies. A pointer into the bundle is the caller's to make, so the body view crosses as an offset and a length.
-use bundle_rules::finding::Opening;
+use answers::number::ABSENT;
+use answers::opening::Opening;
 use curiumtoad::opening::open;
 use layout::field::body_span;
 use reply::Reply;
@@ -16,7 +17,7 @@ pub(crate) fn body_place(bundle: &[u8], method: usize) -> Reply
         return Reply::of_opening(opening);
     };
     if b.methods <= method {
-        return Reply::pair(18, 0, 0);
+        return Reply::pair(ABSENT, 0, 0);
     }
     let span = body_span(bundle, b, method);
     Reply::pair(0, span.at, span.len)

@@ -19,13 +19,17 @@ use reply::Reply;
 use text::listing::listing;
 ghost use mathlib.Core.Path.{_≡_};
 ghost use mathlib.Core.List.{[], _∷_};
+ghost use Prim.Native.Nat.{_≤_};
 ghost use lib.ListN.{length};
 ghost use Rattle.rules.specs.Calls.{openingCall, ancestryCall, lookupCall, sendTypeCall, checkCall, witnessCall, bodyViewCall, runCall, scratchAfter, rowAfter};
+ghost use Rattle.rules.specs.Accepted.{acceptedCall};
 ghost use Rattle.rules.specs.Chart.{chartCall, bufferAfter};
 ghost use Rattle.rules.specs.Rough.{roughCall};
 ghost use Rattle.chart_line.specs.Charted.{lengthSaid};
-ghost use Rattle.reply.specs.Replies.{reply, nothing, counts, ancestryValues, matchValues, lineLength, roughValues, runReply};
-ghost use Rattle.curiumtoad_c.specs.Exported.{version, Handed, placed, AcceptsAs, ListsAs};
+ghost use Rattle.reply.specs.Replies.{reply, nothing, counts, ancestryValues, matchValues, lineLength, roughValues, runReply, acceptedReply};
+ghost use Rattle.sound_runs.specs.Accepted.{EndsSoundly};
+ghost use Rattle.text.specs.Listed.{listingCall, listingAfter};
+ghost use Rattle.curiumtoad_c.specs.Exported.{version, Handed, placed};
 
 // Writes the values, and gives the number.
 fn give(values: &mut [usize; 8], reply: Reply) -> u8
@@ -218,7 +222,8 @@ pub extern "C" fn curiumtoad_run_accepted(
     count: u32,
     values: &mut [usize; 8],
 ) -> u8
-    ensures { λ r. ⌜ AcceptsAs (now (bundle .entry)) (length (now (scratch .entry))) function (a0 ∷ a1 ∷ a2 ∷ []) count r (now (values .exit)) ⌝ }
+    ensures { λ r. ⌜ Handed (acceptedReply (acceptedCall (now (bundle .entry)) (length (now (scratch .entry))) function (a0 ∷ a1 ∷ a2 ∷ []) count)) r (now (values .exit)) ⌝ }
+    ensures { λ _. ⌜ (let call = acceptedCall (now (bundle .entry)) (length (now (scratch .entry))) function (a0 ∷ a1 ∷ a2 ∷ []) count in EndsSoundly (now (bundle .entry)) (length (now (scratch .entry))) function (a0 ∷ a1 ∷ a2 ∷ []) count call) ⌝ }
     ensures { λ r. ⌜ now (scratch .exit) ≡ scratchAfter (now (bundle .entry)) (now (scratch .entry)) ⌝ }
 {
     let tuple = Tuple { a0, a1, a2 };
@@ -230,7 +235,9 @@ pub extern "C" fn curiumtoad_run_accepted(
 // The listing: its length, with the text in the buffer; or 20, and the buffer is as it was. 512 bytes are enough for any.
 #[no_mangle]
 pub extern "C" fn curiumtoad_listing(bundle: &[u8], text: &mut [u8], values: &mut [usize; 8]) -> u8
-    ensures { λ r. ⌜ ListsAs (now (bundle .entry)) (now (text .entry)) (now (text .exit)) r (now (values .exit)) ⌝ }
+    ensures { λ r. ⌜ Handed (reply lineLength (listingCall (now (bundle .entry)) (length (now (text .entry))))) r (now (values .exit)) ⌝ }
+    ensures { λ _. ⌜ now (text .exit) ≡ listingAfter (now (bundle .entry)) (now (text .entry)) ⌝ }
+    ensures { λ r. ⌜ (512 ≤ length (now (text .entry)) → r ≡ 0) ⌝ }
 {
     let answer = listing(bundle, text);
     give(values, answer.reply())

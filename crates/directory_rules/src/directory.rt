@@ -1,5 +1,9 @@
 // The rules of the directory.
 use layout::bundle::Bundle;
+use layout::directory::CLASS_SECTION;
+use layout::directory::CODE_SECTION;
+use layout::directory::METHOD_SECTION;
+use layout::directory::SIGNATURE_SECTION;
 use layout::directory::section_at;
 use layout::directory::section_len;
 ghost use mathlib.Core.Path.{_≡_};
@@ -7,16 +11,16 @@ ghost use mathlib.Core.Bool.{_&&_};
 ghost use Prim.Native.Nat.{_≤_};
 ghost use lib.ListN.{length};
 ghost use Rattle.rules.specs.Bounded.{upto, every};
-ghost use Rattle.rules.specs.Layout.{chainRule, wholeRule};
+ghost use Rattle.rules.specs.Layout.{codeSection, chainRule, wholeRule};
 ghost use Rattle.directory_rules.specs.Directory.{nextRule};
 
 // Whether each section begins where the one before it ends.
 fn joined(bytes: &[u8]) -> bool
     requires { ⌜ 24 ≤ length (now bytes) ⌝ }
-    ensures { λ r. ⌜ r ≡ every (nextRule (now (bytes .entry))) (upto 5) ⌝ }
+    ensures { λ r. ⌜ r ≡ every (nextRule (now (bytes .entry))) (upto codeSection) ⌝ }
 {
     let mut k = 0;
-    while k < 5 {
+    while k < CODE_SECTION {
         if section_at(bytes, k + 1) != section_at(bytes, k) + section_len(bytes, k) {
             return false;
         }
@@ -30,13 +34,13 @@ fn chained(bytes: &[u8]) -> bool
     requires { ⌜ 24 ≤ length (now bytes) ⌝ }
     ensures { λ r. ⌜ r ≡ chainRule (now (bytes .entry)) ⌝ }
 {
-    if section_at(bytes, 0) != 24 {
+    if section_at(bytes, CLASS_SECTION) != 24 {
         return false;
     }
     if !joined(bytes) {
         return false;
     }
-    section_at(bytes, 5) + section_len(bytes, 5) == bytes.len()
+    section_at(bytes, CODE_SECTION) + section_len(bytes, CODE_SECTION) == bytes.len()
 }
 
 // Whether classes, signatures, methods and instructions are whole records, and there is no code without methods.
@@ -44,17 +48,17 @@ fn whole(bytes: &[u8]) -> bool
     requires { ⌜ 24 ≤ length (now bytes) ⌝ }
     ensures { λ r. ⌜ r ≡ wholeRule (now (bytes .entry)) ⌝ }
 {
-    if section_len(bytes, 0) % Bundle::CLASS_BYTES != 0 {
+    if section_len(bytes, CLASS_SECTION) % Bundle::CLASS_BYTES != 0 {
         return false;
     }
-    if section_len(bytes, 3) % Bundle::SIGNATURE_BYTES != 0 {
+    if section_len(bytes, SIGNATURE_SECTION) % Bundle::SIGNATURE_BYTES != 0 {
         return false;
     }
-    let methods = section_len(bytes, 4);
+    let methods = section_len(bytes, METHOD_SECTION);
     if methods % Bundle::METHOD_BYTES != 0 {
         return false;
     }
-    let code = section_len(bytes, 5);
+    let code = section_len(bytes, CODE_SECTION);
     if code % 2 != 0 {
         return false;
     }

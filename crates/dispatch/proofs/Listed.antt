@@ -16,7 +16,7 @@ use Rattle.rules.proofs.Lookup.{applicable-candidate}
 use Rattle.rules.proofs.Selection.{MethodOf}
 use Rattle.layout.specs.declared.bundle.Bundle.{Bundle}
 use Rattle.layout.proofs.Opened.{wellformed-of}
-use Rattle.subclasses.specs.Places.{OfArity}
+use Rattle.layout.specs.Arity.{OfArity}
 use Rattle.subclasses.specs.Prepared.{Prepared}
 use Rattle.dispatch.specs.Listed.{methodOf, Listed, listed, Candidates}
 

@@ -1,7 +1,7 @@
 // The methods that apply to a send.
 use layout::bundle::Bundle;
+use layout::tuple::specialisers;
 use subclasses::places::each_under;
-use subclasses::tuple::specialisers;
 ghost use mathlib.Core.Path.{_≡_};
 ghost use mathlib.Core.Bool.{true};
 ghost use Prim.Native.Nat.{_≤_};
@@ -9,8 +9,9 @@ ghost use lib.ListN.{length};
 ghost use Rattle.rules.specs.Model.{modelOf, present};
 ghost use Rattle.rules.specs.Layout.{maxMethods};
 ghost use Rattle.rules.specs.Lookup.{applies, applicable};
+ghost use Rattle.layout.specs.Arity.{OfArity};
 ghost use Rattle.subclasses.specs.Prepared.{Prepared};
-ghost use Rattle.subclasses.specs.Places.{Arguments, OfArity};
+ghost use Rattle.subclasses.specs.Places.{Arguments};
 ghost use Rattle.dispatch.specs.Index.{Indexed};
 ghost use Rattle.dispatch.specs.Listed.{Written};
 

@@ -1,13 +1,13 @@
 // Whether a method is written for exactly the classes of a send.
 use layout::bundle::Bundle;
-use subclasses::places::each_same;
-use subclasses::tuple::specialisers;
+use layout::tuple::each_same;
+use layout::tuple::specialisers;
 ghost use mathlib.Core.Path.{_≡_};
 ghost use lib.ListN.{length};
 ghost use Rattle.rules.specs.Model.{modelOf};
 ghost use Rattle.rules.specs.Lookup.{exact};
 ghost use Rattle.layout.specs.Opened.{Opened};
-ghost use Rattle.subclasses.specs.Places.{OfArity};
+ghost use Rattle.layout.specs.Arity.{OfArity};
 
 // Whether the specialisers of method m are the argument classes, place by place.
 pub fn is_exact(bytes: &[u8], b: Bundle, args: &[u8], m: usize) -> bool

@@ -1,23 +1,23 @@
 // The method that leads a list of applicable ones, or the two rivals to name.
+use answers::failure::NotFound;
 use layout::bundle::Bundle;
+use layout::tuple::specialisers;
 use subclasses::places::each_under;
-use subclasses::tuple::specialisers;
 ghost use mathlib.Core.Path.{_≡_};
 ghost use Prim.Native.Nat.{_<_, _≤_};
 ghost use lib.ListN.{length};
 ghost use Rattle.rules.specs.Model.{modelOf};
 ghost use Rattle.rules.specs.Lookup.{asSpecific, unbeaten, select};
+ghost use Rattle.layout.specs.Arity.{OfArity};
 ghost use Rattle.subclasses.specs.Prepared.{Prepared};
-ghost use Rattle.subclasses.specs.Places.{OfArity};
 ghost use Rattle.dispatch.specs.Listed.{Candidates};
 ghost use Rattle.dispatch.specs.Rivals.{rivalsBefore, LastRival};
 ghost use Rattle.dispatch.specs.Found.{foundOf};
 
-// One method; none applicable, number 10; or ambiguous, number 11, with the two rivals to name.
+// One method, or why none is found.
 pub enum Found {
     Method(usize),
-    Missing,
-    Ambiguous(usize, usize),
+    Fails(NotFound),
 }
 
 // Whether method m is at least as specific as method o, both of functions with n arguments.
@@ -122,7 +122,7 @@ pub fn select(bytes: &[u8], b: Bundle, scratch: &[u8], f: usize, n: usize, list:
     ensures { λ r. ⌜ foundOf r ≡ select (modelOf (now (bytes .entry))) (now (list .entry)) ⌝ }
 {
     if list.len() == 0 {
-        return Found::Missing;
+        return Found::Fails(NotFound::Missing);
     }
     let mut at = first_candidate(bytes, b, scratch, f, n, list);
     let mut next = 0;
@@ -147,5 +147,5 @@ pub fn select(bytes: &[u8], b: Bundle, scratch: &[u8], f: usize, n: usize, list:
     let newest = list[last] as usize;
     let before = last_rival(bytes, b, scratch, f, n, list, last);
     let next = list[before] as usize;
-    Found::Ambiguous(newest, next)
+    Found::Fails(NotFound::Ambiguous(newest, next))
 }

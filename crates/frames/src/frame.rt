@@ -1,6 +1,6 @@
 // The fields of a frame.
 use layout::bundle::Bundle;
-use subclasses::tuple::class_at;
+use layout::bytes::class_at;
 ghost use mathlib.Core.Path.{_≡_};
 ghost use Prim.Native.Nat.{_+_, _*_, _<_, _≤_};
 ghost use lib.ListN.{length, getD};

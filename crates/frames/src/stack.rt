@@ -2,9 +2,9 @@
 use crate::frame::FRAME_BYTES;
 use crate::frame::FRAME_NUMBERS;
 use layout::bundle::Bundle;
-use subclasses::tuple::class_at;
+use layout::bytes::class_at;
+use layout::bytes::part;
 use subclasses::tuple::padded_tuple;
-use subclasses::tuple::part;
 ghost use mathlib.Core.Path.{_≡_};
 ghost use Prim.Native.Nat.{_+_, _-_, _<_, _≤_};
 ghost use lib.ListN.{getD};

@@ -1,3 +1,4 @@
 pub mod Within
 pub mod Opened
 pub mod Readings
+pub mod Tuples

@@ -10,10 +10,10 @@ use lib.ListN.{length, take, getD}
 use borrow.Author.Tests.{ltb-true}
 use Rattle.rules.specs.Bounded.{every}
 use Rattle.rules.specs.Bytes.{byte, part}
-use Rattle.rules.specs.Layout.{offset, places, tupleRule, classCount, listOffset, listLength, parentsOf, risesAbove, rises, classRule, arityOf, signatureAt, sigFunctionOf, sigTupleOf, signatureRule, methodAt, functionOf, specialiserTupleOf, declaredTupleOf, methodRule, bodyOffset, bodyLength, codeOf}
+use Rattle.rules.specs.Layout.{offset, parentSection, codeSection, places, tupleRule, classCount, listOffset, listLength, parentsOf, risesAbove, rises, classRule, arityOf, sigFunctionOf, sigTupleAt, sigTupleOf, signatureRule, functionOf, specialiserTupleAt, declaredTupleAt, specialiserTupleOf, declaredTupleOf, methodRule, bodyOffset, bodyLength, codeOf}
 use Rattle.rules.specs.Model.{arg, decode, modelOf, operandRule}
 use Rattle.rules.proofs.Lists.{and-left, and-right, every-place}
-use Rattle.rules.proofs.Places.{parents-length, code-length, used-places-read, instructions-length, instructions-read, list-within, body-within, offset-within, part-at}
+use Rattle.rules.proofs.Places.{parents-length, code-length, used-places-read, instructions-length, instructions-read, list-within, body-within, rules-sections, part-at}
 use Rattle.layout.specs.Opened.{Opened}
 use Rattle.layout.specs.declared.bundle.Bundle.{Bundle}
 use Rattle.layout.proofs.Opened.{rules-of, tables-of, wellformed-of, counts-of}
@@ -54,30 +54,25 @@ module _ {b : List ℕ} {t : Bundle} (o : Opened b t) where
       (same, omega arith)
 
   pub sig-arg-read : (s i : ℕ) → s < t .signatures → i < places
-      → let x = byte b (signatureAt b s + 1 + i) in (x ≡ getD (modelOf b .sigArgs s) i 0) × (x < t .classes)
+      → let x = byte b (sigTupleAt b s + i) in (x ≡ getD (modelOf b .sigArgs s) i 0) × (x < t .classes)
   unfolding modelOf sigTupleOf signatureRule
   sig-arg-read s i h k =
       let rule : signatureRule b s ≡ true = rules-of o .ofSignature s (omega (arith, counts-of o)) in
-      place-read (arityOf b (sigFunctionOf b s)) (signatureAt b s + 1) i (search (and-left, and-right)) k
-
-  -- the places of method m from byte `at` of its record on, where its rule has a tuple there
-  method-place : (m at i : ℕ) → m < t .methods → i < places
-      → (methodRule b m ≡ true → tupleRule (classCount b) (arityOf b (functionOf b m)) (part b (methodAt b m + at) places) ≡ true)
-      → let x = byte b (methodAt b m + at + i) in
-      (x ≡ getD (take (arityOf b (functionOf b m)) (part b (methodAt b m + at) places)) i 0) × (x < t .classes)
-  unfolding modelOf
-  method-place m at i h k tuple =
-      place-read (arityOf b (functionOf b m)) (methodAt b m + at) i (tuple (rules-of o .ofMethod m (omega (arith, counts-of o)))) k
+      place-read (arityOf b (sigFunctionOf b s)) (sigTupleAt b s) i (search (and-left, and-right)) k
 
   pub specialiser-read : (m i : ℕ) → m < t .methods → i < places
-      → let x = byte b (methodAt b m + 1 + i) in (x ≡ getD (modelOf b .specialisers m) i 0) × (x < t .classes)
+      → let x = byte b (specialiserTupleAt b m + i) in (x ≡ getD (modelOf b .specialisers m) i 0) × (x < t .classes)
   unfolding modelOf specialiserTupleOf methodRule
-  specialiser-read m i h k = method-place m 1 i h k (λ rule. search (and-left, and-right) depth 9)
+  specialiser-read m i h k =
+      let rule : methodRule b m ≡ true = rules-of o .ofMethod m (omega (arith, counts-of o)) in
+      place-read (arityOf b (functionOf b m)) (specialiserTupleAt b m) i (search (and-left, and-right) depth 9) k
 
   pub declared-read : (m i : ℕ) → m < t .methods → i < places
-      → let x = byte b (methodAt b m + (1 + places) + i) in (x ≡ getD (modelOf b .declared m) i 0) × (x < t .classes)
+      → let x = byte b (declaredTupleAt b m + i) in (x ≡ getD (modelOf b .declared m) i 0) × (x < t .classes)
   unfolding modelOf declaredTupleOf methodRule
-  declared-read m i h k = method-place m (1 + places) i h k (λ rule. search (and-left, and-right) depth 9)
+  declared-read m i h k =
+      let rule : methodRule b m ≡ true = rules-of o .ofMethod m (omega (arith, counts-of o)) in
+      place-read (arityOf b (functionOf b m)) (declaredTupleAt b m) i (search (and-left, and-right) depth 9) k
 
   pub parents-counted : (c : ℕ) → c < t .classes → length (modelOf b .parents c) ≡ listLength b c
   unfolding modelOf
@@ -98,13 +93,13 @@ module _ {b : List ℕ} {t : Bundle} (o : Opened b t) where
     parent-within =
         let tables = tables-of o in
         let counts = counts-of o in
-        omega (arith, parents-counted c h, list-within b (rules-of o) c (omega arith), offset-within b (rules-of o) 2 (omega arith))
+        omega (arith, parents-counted c h, list-within b (rules-of o) c (omega arith), rules-sections b (rules-of o))
 
     pub parent-read : let x = byte b (t .«parent_at» + listOffset b c + i) in (x ≡ getD (modelOf b .parents c) i 0) × (x < c)
     unfolding modelOf parentsOf
     parent-read =
-        let same : byte b (offset b 1 + listOffset b c + i) ≡ getD (parentsOf b c) i 0 =
-        sym (part-at b (offset b 1 + listOffset b c) (listLength b c) i (omega (arith, parents-counted c h))) in
+        let same : byte b (offset b parentSection + listOffset b c + i) ≡ getD (parentsOf b c) i 0 =
+        sym (part-at b (offset b parentSection + listOffset b c) (listLength b c) i (omega (arith, parents-counted c h))) in
         let lower = every-place (λ p. ltb p c) (parentsOf b c) 0 (wellformed-of o .parents-lower c (omega (arith, counts-of o))) i k in
         rw (tables-of o .parent-at) (same, omega (arith, ltb-true (getD (parentsOf b c) i 0) c lower))
 
@@ -126,9 +121,9 @@ module _ {b : List ℕ} {t : Bundle} (o : Opened b t) where
         let tables = tables-of o in
         let counts = counts-of o in
         let inside : 2 * i + 1 < bodyLength b m = omega (arith, body-counted m h) in
-        let operation = part-at b (offset b 5 + bodyOffset b m) (bodyLength b m) (2 * i) (omega arith) in
-        let operand = part-at b (offset b 5 + bodyOffset b m) (bodyLength b m) (2 * i + 1) inside in
-        let next : offset b 5 + bodyOffset b m + (2 * i + 1) ≡ offset b 5 + bodyOffset b m + 2 * i + 1 = omega arith in
+        let operation = part-at b (offset b codeSection + bodyOffset b m) (bodyLength b m) (2 * i) (omega arith) in
+        let operand = part-at b (offset b codeSection + bodyOffset b m) (bodyLength b m) (2 * i + 1) inside in
+        let next : offset b codeSection + bodyOffset b m + (2 * i + 1) ≡ offset b codeSection + bodyOffset b m + 2 * i + 1 = omega arith in
         cc (instructions-read (codeOf b m) i (arg 0) (omega (arith, code-length b (rules-of o) m (omega arith))))
 
     pub operand-kept : operandRule (modelOf b) (modelOf b .arity (modelOf b .function m)) (getD (modelOf b .body m) i (arg 0)) ≡ true

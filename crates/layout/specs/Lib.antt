@@ -2,3 +2,4 @@ pub mod Tables
 pub mod Opened
 pub mod Instruction
 pub mod Bodies
+pub mod Arity

@@ -1,4 +1,10 @@
 // The opened bundle: how many records there are, and where the sections begin.
+use crate::directory::CLASS_SECTION;
+use crate::directory::CODE_SECTION;
+use crate::directory::FUNCTION_SECTION;
+use crate::directory::METHOD_SECTION;
+use crate::directory::PARENT_SECTION;
+use crate::directory::SIGNATURE_SECTION;
 use crate::directory::section_at;
 use crate::directory::section_len;
 ghost use mathlib.Core.Path.{_≡_};
@@ -52,22 +58,26 @@ impl Bundle {
 
     pub const PLACES: usize = 3;
 
-    // The bytes of a record, and where a record has what stands after its places.
+    // The bytes of a record, and where a record has its places and what stands after them.
     pub const CLASS_BYTES: usize = 6;
 
-    pub const SIGNATURE_BYTES: usize = 2 + Self::PLACES;
+    pub const SIGNATURE_PLACES: usize = 1;
 
-    pub const SIGNATURE_RESULT: usize = 1 + Self::PLACES;
+    pub const SIGNATURE_RESULT: usize = Self::SIGNATURE_PLACES + Self::PLACES;
 
-    pub const METHOD_BYTES: usize = 6 + 2 * Self::PLACES;
+    pub const SIGNATURE_BYTES: usize = Self::SIGNATURE_RESULT + 1;
 
-    pub const METHOD_DECLARED: usize = 1 + Self::PLACES;
+    pub const METHOD_SPECIALISERS: usize = 1;
 
-    pub const METHOD_RESULT: usize = 1 + 2 * Self::PLACES;
+    pub const METHOD_DECLARED: usize = Self::METHOD_SPECIALISERS + Self::PLACES;
 
-    pub const METHOD_BODY: usize = 2 + 2 * Self::PLACES;
+    pub const METHOD_RESULT: usize = Self::METHOD_DECLARED + Self::PLACES;
 
-    pub const METHOD_BODY_LENGTH: usize = 4 + 2 * Self::PLACES;
+    pub const METHOD_BODY: usize = Self::METHOD_RESULT + 1;
+
+    pub const METHOD_BODY_LENGTH: usize = Self::METHOD_BODY + 2;
+
+    pub const METHOD_BYTES: usize = Self::METHOD_BODY_LENGTH + 2;
 
     // The bundle whose six sections are counted.
     pub fn new(
@@ -101,12 +111,12 @@ impl Bundle {
         requires { ⌜ 24 ≤ length (now bytes) ⌝ }
         ensures { λ r. ⌜ Tables (now (bytes .entry)) r ⌝ }
     {
-        let classes = counted(bytes, 0, Self::CLASS_BYTES);
-        let parents = counted(bytes, 1, 1);
-        let functions = counted(bytes, 2, 1);
-        let signatures = counted(bytes, 3, Self::SIGNATURE_BYTES);
-        let methods = counted(bytes, 4, Self::METHOD_BYTES);
-        let code = counted(bytes, 5, 1);
+        let classes = counted(bytes, CLASS_SECTION, Self::CLASS_BYTES);
+        let parents = counted(bytes, PARENT_SECTION, 1);
+        let functions = counted(bytes, FUNCTION_SECTION, 1);
+        let signatures = counted(bytes, SIGNATURE_SECTION, Self::SIGNATURE_BYTES);
+        let methods = counted(bytes, METHOD_SECTION, Self::METHOD_BYTES);
+        let code = counted(bytes, CODE_SECTION, 1);
         Bundle::new(classes, parents, functions, signatures, methods, code)
     }
 }

@@ -5,6 +5,19 @@ ghost use Prim.Native.Nat.{_<_, _≤_};
 ghost use lib.ListN.{length};
 ghost use Rattle.rules.specs.Layout.{offset, extent};
 
+// The sections, in their order.
+pub const CLASS_SECTION: usize = 0;
+
+pub const PARENT_SECTION: usize = 1;
+
+pub const FUNCTION_SECTION: usize = 2;
+
+pub const SIGNATURE_SECTION: usize = 3;
+
+pub const METHOD_SECTION: usize = 4;
+
+pub const CODE_SECTION: usize = 5;
+
 // Where section k begins.
 pub fn section_at(bytes: &[u8], k: usize) -> usize
     requires { ⌜ 24 ≤ length (now bytes) ⌝ }

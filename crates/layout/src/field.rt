@@ -3,18 +3,14 @@ use crate::bundle::Bundle;
 use crate::bytes::byte_at;
 use crate::instruction::Instruction;
 use crate::instruction::decoded;
-use crate::record::argument_count;
+use crate::record;
 use crate::record::body_length;
 use crate::record::body_offset;
+use crate::record::declared_tuple_at;
 use crate::record::kind;
-use crate::record::list_length;
 use crate::record::list_offset;
-use crate::record::method_function;
-use crate::record::method_record;
-use crate::record::method_result;
-use crate::record::signature_function;
-use crate::record::signature_record;
-use crate::record::signature_result;
+use crate::record::sig_tuple_at;
+use crate::record::specialiser_tuple_at;
 ghost use mathlib.Core.Path.{_≡_};
 ghost use mathlib.Core.Bool.{true};
 ghost use Prim.Native.Nat.{_<_, _≤_};
@@ -40,7 +36,7 @@ pub fn parent_count(bytes: &[u8], b: Bundle, c: usize) -> usize
     requires { ⌜ c < b .classes ⌝ }
     ensures { λ r. ⌜ (r ≡ length (modelOf (now (bytes .entry)) .parents c)) × (r ≤ maxClasses) ⌝ }
 {
-    list_length(bytes, b, c)
+    record::parent_count(bytes, b, c)
 }
 
 // Parent i of class c.
@@ -59,7 +55,7 @@ pub fn arity(bytes: &[u8], b: Bundle, f: usize) -> usize
     requires { ⌜ f < b .functions ⌝ }
     ensures { λ r. ⌜ (r ≡ modelOf (now (bytes .entry)) .arity f) × (r ≤ places) ⌝ }
 {
-    argument_count(bytes, b, f)
+    record::arity(bytes, b, f)
 }
 
 // The function of signature s.
@@ -68,7 +64,7 @@ pub fn sig_function(bytes: &[u8], b: Bundle, s: usize) -> usize
     requires { ⌜ s < b .signatures ⌝ }
     ensures { λ r. ⌜ (r ≡ modelOf (now (bytes .entry)) .sigFunction s) × (r < b .functions) ⌝ }
 {
-    signature_function(bytes, b, s)
+    record::sig_function(bytes, b, s)
 }
 
 // The argument class of signature s at a place, 0 where the place is unused.
@@ -78,7 +74,7 @@ pub fn sig_arg(bytes: &[u8], b: Bundle, s: usize, place: usize) -> usize
     requires { ⌜ place < places ⌝ }
     ensures { λ r. ⌜ (r ≡ getD (modelOf (now (bytes .entry)) .sigArgs s) place 0) × (r < b .classes) ⌝ }
 {
-    byte_at(bytes, signature_record(bytes, b, s) + 1 + place)
+    byte_at(bytes, sig_tuple_at(bytes, b, s) + place)
 }
 
 // The result class of signature s.
@@ -87,7 +83,7 @@ pub fn sig_result(bytes: &[u8], b: Bundle, s: usize) -> usize
     requires { ⌜ s < b .signatures ⌝ }
     ensures { λ r. ⌜ (r ≡ modelOf (now (bytes .entry)) .sigResult s) × (r < b .classes) ⌝ }
 {
-    signature_result(bytes, b, s)
+    record::sig_result(bytes, b, s)
 }
 
 // The function of method m.
@@ -96,7 +92,7 @@ pub fn function(bytes: &[u8], b: Bundle, m: usize) -> usize
     requires { ⌜ m < b .methods ⌝ }
     ensures { λ r. ⌜ (r ≡ modelOf (now (bytes .entry)) .function m) × (r < b .functions) ⌝ }
 {
-    method_function(bytes, b, m)
+    record::function(bytes, b, m)
 }
 
 // The specialiser of method m at a place, 0 where the place is unused.
@@ -106,7 +102,7 @@ pub fn specialiser(bytes: &[u8], b: Bundle, m: usize, place: usize) -> usize
     requires { ⌜ place < places ⌝ }
     ensures { λ r. ⌜ (r ≡ getD (modelOf (now (bytes .entry)) .specialisers m) place 0) × (r < b .classes) ⌝ }
 {
-    byte_at(bytes, method_record(bytes, b, m) + 1 + place)
+    byte_at(bytes, specialiser_tuple_at(bytes, b, m) + place)
 }
 
 // The declared class of method m at a place, 0 where the place is unused.
@@ -116,10 +112,7 @@ pub fn declared(bytes: &[u8], b: Bundle, m: usize, place: usize) -> usize
     requires { ⌜ place < places ⌝ }
     ensures { λ r. ⌜ (r ≡ getD (modelOf (now (bytes .entry)) .declared m) place 0) × (r < b .classes) ⌝ }
 {
-    byte_at(
-        bytes,
-        method_record(bytes, b, m) + Bundle::METHOD_DECLARED + place,
-    )
+    byte_at(bytes, declared_tuple_at(bytes, b, m) + place)
 }
 
 // The result class of method m.
@@ -128,7 +121,7 @@ pub fn result(bytes: &[u8], b: Bundle, m: usize) -> usize
     requires { ⌜ m < b .methods ⌝ }
     ensures { λ r. ⌜ (r ≡ modelOf (now (bytes .entry)) .result m) × (r < b .classes) ⌝ }
 {
-    method_result(bytes, b, m)
+    record::result(bytes, b, m)
 }
 
 // How many instructions the body of method m has.

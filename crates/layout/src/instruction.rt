@@ -1,4 +1,5 @@
 // An instruction as the machine and the check of bodies see it.
+use crate::bundle::Bundle;
 ghost use mathlib.Core.Path.{_≡_};
 ghost use Rattle.rules.specs.Model.{decode};
 ghost use Rattle.layout.specs.Instruction.{instr};
@@ -10,15 +11,14 @@ pub enum Instruction {
     Send(usize),
 }
 
-// The instruction of these two bytes; number 9 refuses an operation above 2.
+// The instruction of these two bytes. Number 9 refuses every other operation, and so it does what stands for it here.
 pub fn decoded(operation: usize, operand: usize) -> Instruction
     ensures { λ r. ⌜ instr r ≡ decode operation operand ⌝ }
 {
-    if operation == 0 {
-        return Instruction::Arg(operand);
+    match operation {
+        0 => Instruction::Arg(operand),
+        1 => Instruction::New(operand),
+        2 => Instruction::Send(operand),
+        _ => Instruction::Arg(Bundle::PLACES),
     }
-    if operation == 1 {
-        return Instruction::New(operand);
-    }
-    Instruction::Send(operand)
 }

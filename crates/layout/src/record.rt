@@ -6,7 +6,7 @@ ghost use mathlib.Core.Path.{_≡_};
 ghost use Prim.Native.Nat.{_+_, _<_, _≤_};
 ghost use lib.ListN.{length};
 ghost use Rattle.rules.specs.Bytes.{byte};
-ghost use Rattle.rules.specs.Layout.{classAt, classBytes, kindOf, listOffset, listLength, arityOf, signatureAt, signatureBytes, sigFunctionOf, sigResultOf, methodAt, methodBytes, functionOf, resultOf, bodyOffset, bodyLength};
+ghost use Rattle.rules.specs.Layout.{places, classAt, classBytes, kindOf, listOffset, listLength, arityOf, signatureAt, signatureBytes, sigTupleAt, sigFunctionOf, sigResultOf, methodAt, methodBytes, specialiserTupleAt, declaredTupleAt, functionOf, resultOf, bodyOffset, bodyLength};
 ghost use Rattle.layout.specs.Tables.{Placed};
 
 // Where the record of class c begins.
@@ -36,6 +36,33 @@ pub fn method_record(bytes: &[u8], b: Bundle, m: usize) -> usize
     b.method_at + Bundle::METHOD_BYTES * m
 }
 
+// Where the places of signature s begin.
+pub fn sig_tuple_at(bytes: &[u8], b: Bundle, s: usize) -> usize
+    requires { ⌜ Placed (now bytes) b ⌝ }
+    requires { ⌜ s < b .signatures ⌝ }
+    ensures { λ r. ⌜ (r ≡ sigTupleAt (now (bytes .entry)) s) × (r + places ≤ length (now (bytes .entry))) ⌝ }
+{
+    signature_record(bytes, b, s) + Bundle::SIGNATURE_PLACES
+}
+
+// Where the specialisers of method m begin.
+pub fn specialiser_tuple_at(bytes: &[u8], b: Bundle, m: usize) -> usize
+    requires { ⌜ Placed (now bytes) b ⌝ }
+    requires { ⌜ m < b .methods ⌝ }
+    ensures { λ r. ⌜ (r ≡ specialiserTupleAt (now (bytes .entry)) m) × (r + places ≤ length (now (bytes .entry))) ⌝ }
+{
+    method_record(bytes, b, m) + Bundle::METHOD_SPECIALISERS
+}
+
+// Where the declared classes of method m begin.
+pub fn declared_tuple_at(bytes: &[u8], b: Bundle, m: usize) -> usize
+    requires { ⌜ Placed (now bytes) b ⌝ }
+    requires { ⌜ m < b .methods ⌝ }
+    ensures { λ r. ⌜ (r ≡ declaredTupleAt (now (bytes .entry)) m) × (r + places ≤ length (now (bytes .entry))) ⌝ }
+{
+    method_record(bytes, b, m) + Bundle::METHOD_DECLARED
+}
+
 // The kind of class c.
 pub fn kind(bytes: &[u8], b: Bundle, c: usize) -> usize
     requires { ⌜ Placed (now bytes) b ⌝ }
@@ -55,7 +82,7 @@ pub fn list_offset(bytes: &[u8], b: Bundle, c: usize) -> usize
 }
 
 // How many parents class c has.
-pub fn list_length(bytes: &[u8], b: Bundle, c: usize) -> usize
+pub fn parent_count(bytes: &[u8], b: Bundle, c: usize) -> usize
     requires { ⌜ Placed (now bytes) b ⌝ }
     requires { ⌜ c < b .classes ⌝ }
     ensures { λ r. ⌜ (r ≡ listLength (now (bytes .entry)) c) × (r < 65536) ⌝ }
@@ -64,7 +91,7 @@ pub fn list_length(bytes: &[u8], b: Bundle, c: usize) -> usize
 }
 
 // How many arguments function f has.
-pub fn argument_count(bytes: &[u8], b: Bundle, f: usize) -> usize
+pub fn arity(bytes: &[u8], b: Bundle, f: usize) -> usize
     requires { ⌜ Placed (now bytes) b ⌝ }
     requires { ⌜ f < b .functions ⌝ }
     ensures { λ r. ⌜ r ≡ arityOf (now (bytes .entry)) f ⌝ }
@@ -73,7 +100,7 @@ pub fn argument_count(bytes: &[u8], b: Bundle, f: usize) -> usize
 }
 
 // The function of signature s.
-pub fn signature_function(bytes: &[u8], b: Bundle, s: usize) -> usize
+pub fn sig_function(bytes: &[u8], b: Bundle, s: usize) -> usize
     requires { ⌜ Placed (now bytes) b ⌝ }
     requires { ⌜ s < b .signatures ⌝ }
     ensures { λ r. ⌜ r ≡ sigFunctionOf (now (bytes .entry)) s ⌝ }
@@ -82,7 +109,7 @@ pub fn signature_function(bytes: &[u8], b: Bundle, s: usize) -> usize
 }
 
 // The result class of signature s.
-pub fn signature_result(bytes: &[u8], b: Bundle, s: usize) -> usize
+pub fn sig_result(bytes: &[u8], b: Bundle, s: usize) -> usize
     requires { ⌜ Placed (now bytes) b ⌝ }
     requires { ⌜ s < b .signatures ⌝ }
     ensures { λ r. ⌜ r ≡ sigResultOf (now (bytes .entry)) s ⌝ }
@@ -94,7 +121,7 @@ pub fn signature_result(bytes: &[u8], b: Bundle, s: usize) -> usize
 }
 
 // The function of method m.
-pub fn method_function(bytes: &[u8], b: Bundle, m: usize) -> usize
+pub fn function(bytes: &[u8], b: Bundle, m: usize) -> usize
     requires { ⌜ Placed (now bytes) b ⌝ }
     requires { ⌜ m < b .methods ⌝ }
     ensures { λ r. ⌜ r ≡ functionOf (now (bytes .entry)) m ⌝ }
@@ -103,7 +130,7 @@ pub fn method_function(bytes: &[u8], b: Bundle, m: usize) -> usize
 }
 
 // The result class of method m.
-pub fn method_result(bytes: &[u8], b: Bundle, m: usize) -> usize
+pub fn result(bytes: &[u8], b: Bundle, m: usize) -> usize
     requires { ⌜ Placed (now bytes) b ⌝ }
     requires { ⌜ m < b .methods ⌝ }
     ensures { λ r. ⌜ r ≡ resultOf (now (bytes .entry)) m ⌝ }

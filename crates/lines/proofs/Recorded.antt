@@ -4,20 +4,30 @@ use Prim.Native.Nat.{_≤_, _<_}
 use native.Mathlib.Omega.{arith}
 use mathlib.Core.Path.{_≡_, refl}
 use mathlib.Core.List.{[], _∷_}
-use Rattle.bundle_rules.specs.Opening.{saidOf}
-use Rattle.bundle_rules.specs.declared.finding.LayoutFinding as finding-type
-use Rattle.bundle_rules.specs.declared.finding.LayoutFinding.the-variants as finding
-use Rattle.bundle_rules.proofs.Opened.{record-number}
-use Rattle.calls.specs.Answers.{numberOf, valuesOf, recordOf}
+use lib.ListN.{getD}
+use Rattle.rules.specs.Numbers as numbers
+use Rattle.answers.specs.declared.opening.Rule.{Rule}
+use Rattle.answers.specs.declared.opening.Rule.the-variants as rule
+use Rattle.answers.specs.declared.opening.LayoutFinding as finding-type
+use Rattle.answers.specs.declared.opening.LayoutFinding.the-variants as finding
+use Rattle.answers.specs.Opening.{ruleNumber, layoutNumber, layoutValues}
 
-pub record-none : (f : finding-type.LayoutFinding) → numberOf (saidOf f) < 4 → valuesOf (saidOf f) ≡ []
-record-none finding.Size h = refl
+record-number : (r : Rule) → numbers.badClass ≤ ruleNumber r
+record-number rule.Class = omega arith
+record-number rule.Function = omega arith
+record-number rule.Signature = omega arith
+record-number rule.Method = omega arith
+record-number rule.Twin = omega arith
+record-number rule.Code = omega arith
+
+pub record-none : (f : finding-type.LayoutFinding) → layoutNumber f < numbers.badClass → layoutValues f ≡ []
+record-none finding.Length h = refl
 record-none finding.Directory h = refl
-record-none finding.Limits h = refl
+record-none finding.Counts h = refl
 record-none (finding.Record rule k) h = absurd (omega (arith, record-number rule))
 
-pub record-one : (f : finding-type.LayoutFinding) → 4 ≤ numberOf (saidOf f) → valuesOf (saidOf f) ≡ recordOf (saidOf f) ∷ []
-record-one finding.Size h = absurd (omega arith)
+pub record-one : (f : finding-type.LayoutFinding) → numbers.badClass ≤ layoutNumber f → layoutValues f ≡ getD (layoutValues f) 0 0 ∷ []
+record-one finding.Length h = absurd (omega arith)
 record-one finding.Directory h = absurd (omega arith)
-record-one finding.Limits h = absurd (omega arith)
+record-one finding.Counts h = absurd (omega arith)
 record-one (finding.Record rule k) h = refl

@@ -6,7 +6,8 @@ ghost use Prim.Native.Nat.{_+_, _^_, _<_, _≤_};
 ghost use lib.ListN.{length, take};
 ghost use Rattle.rules.specs.Decimal.{digits, decimal};
 ghost use Rattle.lines.specs.Text.{classes};
-ghost use Rattle.lines.specs.Appended.{Appended};
+ghost use Rattle.rules.specs.Layout.{places};
+ghost use Rattle.lines.specs.Appended.{classesRoom, Appended};
 
 // The most digits of a number.
 const DIGITS: usize = 20;
@@ -69,10 +70,10 @@ fn put_class(text: &mut [u8], at: usize, class: usize) -> usize
 
 // Writes the first n classes of a send.
 pub(crate) fn put_classes(text: &mut [u8], at: usize, n: usize, args: &[usize]) -> usize
-    requires { ⌜ n ≤ 3 ⌝ }
+    requires { ⌜ n ≤ places ⌝ }
     requires { ⌜ n ≤ length (now args) ⌝ }
-    requires { ⌜ at + 96 ≤ length (now text) ⌝ }
-    ensures { λ r. ⌜ Appended 96 (now (text .entry)) at (classes (take n (now (args .entry)))) (now (text .exit)) r ⌝ }
+    requires { ⌜ at + classesRoom ≤ length (now text) ⌝ }
+    ensures { λ r. ⌜ Appended classesRoom (now (text .entry)) at (classes (take n (now (args .entry)))) (now (text .exit)) r ⌝ }
 {
     let mut end = at;
     let mut i = 0;

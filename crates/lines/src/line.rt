@@ -2,30 +2,33 @@
 use crate::append::put_classes;
 use crate::append::put_field;
 use crate::append::put_word;
-use bundle_rules::finding::LayoutFinding;
-use calls::check::BodyFinding;
-use calls::check::Finding;
-use calls::check::Verdict;
-use calls::witness::CoverageFinding;
+use answers::failure::Failure;
+use answers::failure::NotFound;
+use answers::finding::BodyFinding;
+use answers::finding::CoverageFinding;
+use answers::finding::Finding;
+use answers::finding::Verdict;
+use answers::number::BAD_CLASS;
+use answers::number::SHORT_SCRATCH;
+use answers::opening::LayoutFinding;
+use answers::send::Send;
 use layout::bundle::Bundle;
 use layout::field::arity;
-use preparation::opening::number;
-use preparation::opening::record;
-use subclasses::send::Send;
 ghost use mathlib.Core.Path.{_≡_};
 ghost use mathlib.Core.List.{[], _∷_, _++_};
 ghost use Prim.Native.Nat.{_+_, _<_, _≤_};
 ghost use lib.ListN.{length, take};
 ghost use Rattle.rules.specs.Model.{Model, modelOf};
-ghost use Rattle.bundle_rules.specs.Opening.{saidOf};
 ghost use Rattle.layout.specs.Opened.{Opened};
-ghost use Rattle.subclasses.specs.Send.{tupleOf};
-ghost use Rattle.calls.specs.Answers.{valuesOf};
-ghost use Rattle.calls.specs.Said.{coverageSaid, verdictSaid};
+ghost use Rattle.answers.specs.Send.{tupleOf};
+ghost use Rattle.rules.specs.Layout.{places};
+ghost use Rattle.answers.specs.Opening.{layoutValues};
+ghost use Rattle.answers.specs.Failures.{notFoundMethods, failureMethods};
+ghost use Rattle.answers.specs.Findings.{coverageSaid, verdictSaid};
 ghost use Rattle.rules.specs.Ascii.{ascii};
-ghost use Rattle.lines.specs.Text.{field, countsLine, classes, finding, refusedLine, verdictLine};
-ghost use Rattle.lines.specs.Appended.{Appended};
-ghost use Rattle.lines.specs.Findings.{functionOf, NamedBy, Named, layoutLine, refusedWith};
+ghost use Rattle.lines.specs.Text.{field, countsLine, classes, methods, finding, refusedLine, verdictLine};
+ghost use Rattle.lines.specs.Appended.{sendRoom, methodsRoom, findingRoom, Appended};
+ghost use Rattle.lines.specs.Findings.{NamedBy, Named, layoutLine, refusedWith};
 
 fn wide(x: u8) -> usize
     ensures { λ r. ⌜ r ≡ x ⌝ }
@@ -48,12 +51,12 @@ pub fn counts_line(text: &mut [u8], b: Bundle) -> usize
 // Writes the record that a layout refusal names: from 4 on there is one.
 fn put_record(text: &mut [u8], at: usize, found: LayoutFinding) -> usize
     requires { ⌜ at + 32 ≤ length (now text) ⌝ }
-    ensures { λ r. ⌜ ((M : Model) → Appended 32 (now (text .entry)) at (finding M (valuesOf (saidOf found))) (now (text .exit)) r) ⌝ }
+    ensures { λ r. ⌜ ((M : Model) → Appended 32 (now (text .entry)) at (finding M (layoutValues found)) (now (text .exit)) r) ⌝ }
 {
-    if number(found) < 4 {
+    if found.number() < BAD_CLASS {
         return at;
     }
-    put_field(text, at, b" record ", record(found))
+    put_field(text, at, b" record ", found.record())
 }
 
 // Writes the line of a layout refusal.
@@ -61,7 +64,7 @@ pub fn layout_line(text: &mut [u8], at: usize, found: LayoutFinding) -> usize
     requires { ⌜ at + 76 ≤ length (now text) ⌝ }
     ensures { λ r. ⌜ ((M : Model) → Appended 76 (now (text .entry)) at (layoutLine M found) (now (text .exit)) r) ⌝ }
 {
-    let p = put_field(text, at, b"refused ", wide(number(found)));
+    let p = put_field(text, at, b"refused ", wide(found.number()));
     let end = put_record(text, p, found);
     put_word(text, end, b"\n")
 }
@@ -84,9 +87,9 @@ fn put_send(
     n: usize,
     send: Send,
 ) -> usize
-    requires { ⌜ n ≤ 3 ⌝ }
-    requires { ⌜ at + 192 ≤ length (now text) ⌝ }
-    ensures { λ r. ⌜ Appended 192 (now (text .entry)) at (field "refused " refusal ++ field " signature " signature ++ field " send " (send .function) ++ classes (take n (tupleOf send))) (now (text .exit)) r ⌝ }
+    requires { ⌜ n ≤ places ⌝ }
+    requires { ⌜ at + sendRoom ≤ length (now text) ⌝ }
+    ensures { λ r. ⌜ Appended sendRoom (now (text .entry)) at (field "refused " refusal ++ field " signature " signature ++ field " send " (send .function) ++ classes (take n (tupleOf send))) (now (text .exit)) r ⌝ }
 {
     let tuple = send.tuple;
     let args = [tuple.a0, tuple.a1, tuple.a2];
@@ -107,49 +110,34 @@ fn put_method(text: &mut [u8], at: usize, m: usize) -> usize
 
 // Writes the end of a coverage line that names two methods.
 fn put_methods(text: &mut [u8], at: usize, m: usize, o: usize) -> usize
-    requires { ⌜ at + 76 ≤ length (now text) ⌝ }
-    ensures { λ r. ⌜ Appended 76 (now (text .entry)) at (field " methods " m ++ field " " o ++ ascii "\n") (now (text .exit)) r ⌝ }
+    requires { ⌜ at + methodsRoom ≤ length (now text) ⌝ }
+    ensures { λ r. ⌜ Appended methodsRoom (now (text .entry)) at (field " methods " m ++ field " " o ++ ascii "\n") (now (text .exit)) r ⌝ }
 {
     let p = put_field(text, at, b" methods ", m);
     let end = put_field(text, p, b" ", o);
     put_word(text, end, b"\n")
 }
 
-// Writes the line of a coverage finding, of a function of n arguments.
-fn put_coverage(text: &mut [u8], at: usize, n: usize, found: CoverageFinding) -> usize
-    requires { ⌜ n ≤ 3 ⌝ }
-    requires { ⌜ at + 268 ≤ length (now text) ⌝ }
-    ensures { λ r. ⌜ ((M : Model) → M .arity (functionOf found) ≡ n → Appended 268 (now (text .entry)) at (verdictLine M (coverageSaid found)) (now (text .exit)) r) ⌝ }
+// Writes the end of a coverage line where lookup fails.
+fn put_not_found(text: &mut [u8], at: usize, failed: NotFound) -> usize
+    requires { ⌜ at + methodsRoom ≤ length (now text) ⌝ }
+    ensures { λ r. ⌜ Appended methodsRoom (now (text .entry)) at (methods (notFoundMethods failed) ++ ascii "\n") (now (text .exit)) r ⌝ }
 {
-    match found {
-        CoverageFinding::Missing(s, send) => {
-            let end = put_send(text, at, 10, s, n, send);
-            put_word(text, end, b"\n")
-        }
-        CoverageFinding::Ambiguous(s, send, m, o) => {
-            let end = put_send(text, at, 11, s, n, send);
-            put_methods(text, end, m, o)
-        }
-        CoverageFinding::Declared(s, send, m) => {
-            let end = put_send(text, at, 12, s, n, send);
-            put_method(text, end, m)
-        }
-        CoverageFinding::Result(s, send, m) => {
-            let end = put_send(text, at, 13, s, n, send);
-            put_method(text, end, m)
-        }
+    match failed {
+        NotFound::Missing => put_word(text, at, b"\n"),
+        NotFound::Ambiguous(m, o) => put_methods(text, at, m, o),
     }
 }
 
-// The function of the send that a coverage finding names.
-fn function_of(found: CoverageFinding) -> usize
-    ensures { λ r. ⌜ r ≡ functionOf found ⌝ }
+// Writes the end of a coverage line: the methods that the failure names.
+fn put_failure(text: &mut [u8], at: usize, failure: Failure) -> usize
+    requires { ⌜ at + methodsRoom ≤ length (now text) ⌝ }
+    ensures { λ r. ⌜ Appended methodsRoom (now (text .entry)) at (methods (failureMethods failure) ++ ascii "\n") (now (text .exit)) r ⌝ }
 {
-    match found {
-        CoverageFinding::Missing(_, send) => send.function,
-        CoverageFinding::Ambiguous(_, send, _, _) => send.function,
-        CoverageFinding::Declared(_, send, _) => send.function,
-        CoverageFinding::Result(_, send, _) => send.function,
+    match failure {
+        Failure::Lookup(failed) => put_not_found(text, at, failed),
+        Failure::Declared(m) => put_method(text, at, m),
+        Failure::Result(m) => put_method(text, at, m),
     }
 }
 
@@ -162,12 +150,15 @@ fn coverage_line(
     found: CoverageFinding,
 ) -> usize
     requires { ⌜ Opened (now bundle) b ⌝ }
-    requires { ⌜ functionOf found < b .functions ⌝ }
-    requires { ⌜ at + 268 ≤ length (now text) ⌝ }
-    ensures { λ r. ⌜ Appended 268 (now (text .entry)) at (verdictLine (modelOf (now (bundle .entry))) (coverageSaid found)) (now (text .exit)) r ⌝ }
+    requires { ⌜ found .send .function < b .functions ⌝ }
+    requires { ⌜ at + findingRoom ≤ length (now text) ⌝ }
+    ensures { λ r. ⌜ Appended findingRoom (now (text .entry)) at (verdictLine (modelOf (now (bundle .entry))) (coverageSaid found)) (now (text .exit)) r ⌝ }
 {
-    let n = arity(bundle, b, function_of(found));
-    put_coverage(text, at, n, found)
+    let send = found.send;
+    let failure = found.failure;
+    let n = arity(bundle, b, send.function);
+    let end = put_send(text, at, wide(failure.number()), found.signature, n, send);
+    put_failure(text, end, failure)
 }
 
 // Writes the line of a body finding.
@@ -185,13 +176,13 @@ fn body_line(text: &mut [u8], at: usize, found: BodyFinding) -> usize
 fn finding_line(bundle: &[u8], b: Bundle, text: &mut [u8], at: usize, found: Finding) -> usize
     requires { ⌜ Opened (now bundle) b ⌝ }
     requires { ⌜ NamedBy (b .functions) found ⌝ }
-    requires { ⌜ at + 268 ≤ length (now text) ⌝ }
-    ensures { λ r. ⌜ Appended 268 (now (text .entry)) at (verdictLine (modelOf (now (bundle .entry))) (verdictSaid (refusedWith found))) (now (text .exit)) r ⌝ }
+    requires { ⌜ at + findingRoom ≤ length (now text) ⌝ }
+    ensures { λ r. ⌜ Appended findingRoom (now (text .entry)) at (verdictLine (modelOf (now (bundle .entry))) (verdictSaid (refusedWith found))) (now (text .exit)) r ⌝ }
 {
     match found {
         Finding::Layout(layout) => layout_line(text, at, layout),
         // The listing has scratch enough of its own, and so never prints this.
-        Finding::Scratch => number_line(text, at, 19),
+        Finding::Scratch => number_line(text, at, SHORT_SCRATCH as usize),
         Finding::Coverage(coverage) => coverage_line(bundle, b, text, at, coverage),
         Finding::Body(body) => body_line(text, at, body),
     }
@@ -201,8 +192,8 @@ fn finding_line(bundle: &[u8], b: Bundle, text: &mut [u8], at: usize, found: Fin
 pub fn verdict_line(bundle: &[u8], b: Bundle, text: &mut [u8], at: usize, verdict: Verdict) -> usize
     requires { ⌜ Opened (now bundle) b ⌝ }
     requires { ⌜ Named (b .functions) verdict ⌝ }
-    requires { ⌜ at + 268 ≤ length (now text) ⌝ }
-    ensures { λ r. ⌜ Appended 268 (now (text .entry)) at (verdictLine (modelOf (now (bundle .entry))) (verdictSaid verdict)) (now (text .exit)) r ⌝ }
+    requires { ⌜ at + findingRoom ≤ length (now text) ⌝ }
+    ensures { λ r. ⌜ Appended findingRoom (now (text .entry)) at (verdictLine (modelOf (now (bundle .entry))) (verdictSaid verdict)) (now (text .exit)) r ⌝ }
 {
     match verdict {
         Verdict::Accepted => put_word(text, at, b"accepted\n"),

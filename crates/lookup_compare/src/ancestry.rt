@@ -3,10 +3,24 @@ use crate::record::parent;
 use crate::record::parent_count;
 ghost use Prim.Native.Nat.{_<_};
 
-// The most classes that a bundle may have.
+// The most classes that a bundle may have, and the bytes of a set of them: a bit for each class, the lowest first.
 pub(crate) const CLASSES: usize = 128;
 
-fn mark_parents(bundle: &[u8], class: usize, marks: &mut [u8; 128])
+pub(crate) const ROW: usize = 16;
+
+fn has(set: &[u8; ROW], class: usize) -> bool
+    requires { ⌜ class < 128 ⌝ }
+{
+    (set[class / 8] >> (class % 8)) & 1 == 1
+}
+
+fn add(set: &mut [u8; ROW], class: usize)
+    requires { ⌜ class < 128 ⌝ }
+{
+    set[class / 8] = set[class / 8] | (1 << (class % 8));
+}
+
+fn add_parents(bundle: &[u8], class: usize, set: &mut [u8; ROW])
     requires { ⌜ class < 128 ⌝ }
 {
     let count = parent_count(bundle, class);
@@ -17,38 +31,36 @@ fn mark_parents(bundle: &[u8], class: usize, marks: &mut [u8; 128])
         if above >= CLASSES {
             continue;
         }
-        marks[above] = 1;
+        add(set, above);
     }
 }
 
-// For each class whether the given one is under it: 1, else 0. The number of a parent is lower than its class's, so that a class that is to be marked is
-// marked before its own parents are.
-pub(crate) fn all_above(bundle: &[u8], class: usize) -> [u8; 128] {
-    let mut marks = [0u8; 128];
+// The classes that the given one is under. The number of a parent is lower than its class's, so that a class of the set is added before its own parents are.
+pub(crate) fn all_above(bundle: &[u8], class: usize) -> [u8; ROW] {
+    let mut set = [0u8; ROW];
     if class >= CLASSES {
-        return marks;
+        return set;
     }
-    marks[class] = 1;
+    add(&mut set, class);
     let mut left = class + 1;
     while left > 0 {
         left -= 1;
-        if marks[left] == 0 {
+        if !has(&set, left) {
             continue;
         }
-        mark_parents(bundle, left, &mut marks);
+        add_parents(bundle, left, &mut set);
     }
-    marks
+    set
 }
 
 pub(crate) fn is_under(bundle: &[u8], class: usize, other: usize) -> bool {
     if other >= CLASSES {
         return false;
     }
-    let marks = all_above(bundle, class);
-    marks[other] == 1
+    has(&all_above(bundle, class), other)
 }
 
-// How a class stands to another, as a number to compare.
+// How a class stands to another, by the numbers of a reply.
 pub(crate) const NEITHER: usize = 0;
 
 pub(crate) const SAME: usize = 1;

@@ -1,13 +1,13 @@
-// Lookup a second time and another way: nothing of the library is used, there is no matrix, and the most specific method is found by counting. The method
+// Lookup a second time and another way: of the library only the form of a reply is used, there is no matrix, and the most specific method is found by counting. The method
 // found is at least as specific as all the applicable ones, and a rival has none but itself that is as specific as it. What stands here and in `ancestry`,
 // `matrix` and `record` takes a bundle that opens. Of another it says nothing of use, but it reads no byte that is not there, and it ends.
 use crate::ancestry::is_under;
-use crate::answer::Answer;
 use crate::record::METHODS;
 use crate::record::Places;
 use crate::record::function_of;
 use crate::record::method_count;
 use crate::record::specialisers;
+use reply::Reply;
 ghost use Prim.Native.Nat.{_<_, _≤_};
 
 // Whether each class is under the other at its place. All three places are compared: an unused one holds class 0 on both sides.
@@ -126,16 +126,24 @@ fn search(bundle: &[u8], applicable: &[u8; 512], count: usize) -> Outcome {
     Outcome::Rivals(rivals)
 }
 
+// A number that names the send, and two methods or none.
+fn of_send(number: u8, function: usize, args: Places, m: usize, n: usize) -> Reply {
+    Reply {
+        number,
+        values: [function, args.p0, args.p1, args.p2, m, n, 0, 0],
+    }
+}
+
 // What a send of a function of the bundle with classes of the bundle, 0 at unused places, finds: 0 with the method and whether it is exact, 10, or 11 with the
 // two newest rivals.
-pub(crate) fn lookup(bundle: &[u8], function: usize, args: Places) -> Answer {
+pub(crate) fn lookup(bundle: &[u8], function: usize, args: Places) -> Reply {
     let mut applicable = [0u8; 512];
     let count = mark_applicable(bundle, function, args, &mut applicable);
     if count == 0 {
-        return Answer::of(10, 0, 0);
+        return of_send(10, function, args, 0, 0);
     }
     match search(bundle, &applicable, count) {
-        Outcome::Method(m, own) => Answer::of(0, m, one_if(all_same(args, own))),
-        Outcome::Rivals(rivals) => Answer::of(11, rivals.newest, rivals.next),
+        Outcome::Method(m, own) => Reply::pair(0, m, one_if(all_same(args, own))),
+        Outcome::Rivals(rivals) => of_send(11, function, args, rivals.newest, rivals.next),
     }
 }

@@ -1,6 +1,8 @@
 // Made bundles: valid, with much multiple inheritance, and methods that often overlap.
 use crate::generator::comes_up;
 use crate::generator::draw;
+use bytes::copy;
+use test_support::buffer::byte;
 ghost use Prim.Native.Nat.{_<_, _≤_};
 
 // The place so many bytes after another. No bundle comes near the end of the numbers.
@@ -12,30 +14,29 @@ fn between(start: usize, end: usize) -> usize {
     std::num::wrapping_sub_usize(end, start)
 }
 
-// Writes a byte and answers the place after it. Where there is no room nothing is written, so the bundle does not open, and that shows.
-fn put(space: &mut [u8], at: usize, value: usize) -> usize {
-    if at < space.len() {
-        space[at] = (value % 256) as u8;
-        return at + 1;
+// Writes bytes from a place on, and answers the place after them. Where there is no room nothing is written, so the bundle does not open, and that shows.
+pub(crate) fn put(space: &mut [u8], at: usize, bytes: &[u8]) -> usize {
+    if at > space.len() {
+        return at;
     }
-    at
-}
-
-fn put_word(space: &mut [u8], at: usize, value: usize) -> usize {
-    let next = put(space, at, value);
-    put(space, next, value / 256)
-}
-
-fn wide(x: u8) -> usize {
-    x as usize
-}
-
-// The byte at a place, 0 past the end.
-fn get(space: &[u8], at: usize) -> usize {
-    if at < space.len() {
-        return wide(space[at]);
+    if bytes.len() > space.len() - at {
+        return at;
     }
-    0
+    copy(bytes, &mut space[at..]);
+    at + bytes.len()
+}
+
+// The bytes of a number, the lower first.
+fn low(x: usize) -> u8 {
+    (x % 256) as u8
+}
+
+fn high(x: usize) -> u8 {
+    low(x / 256)
+}
+
+fn put_byte(space: &mut [u8], at: usize, value: usize) -> usize {
+    put(space, at, &[low(value)])
 }
 
 // How large a bundle is, and how dense its inheritance: beside one sure parent each lower class is a parent by a chance of one in so many.
@@ -63,55 +64,37 @@ fn put_parents(space: &mut [u8], state: &mut u64, at: usize, class: usize, chanc
         if candidate != sure && !is_drawn {
             continue;
         }
-        end = put(space, end, candidate);
+        end = put_byte(space, end, candidate);
     }
     end
 }
 
+fn put_class(space: &mut [u8], at: usize, kind: usize, offset: usize, len: usize) -> usize {
+    let record = [low(kind), 0, low(offset), high(offset), low(len), high(len)];
+    put(space, at, &record)
+}
+
 // Writes the classes, and their parents into the section after them, and answers where that ends.
-fn put_classes(
-    space: &mut [u8],
-    state: &mut u64,
-    classes: usize,
-    parent_at: usize,
-    chance: usize,
-) -> usize
-    requires { ⌜ 0 < chance ⌝ }
+fn put_classes(space: &mut [u8], state: &mut u64, parent_at: usize, plan: Plan) -> usize
+    requires { ⌜ 0 < plan .chance ⌝ }
 {
+    let classes = plan.classes;
     let mut record_at = 24;
     let mut end = parent_at;
     let mut class = 0;
     while class < classes {
         let start = end;
-        end = put_parents(space, state, start, class, chance);
-        record_at = put(space, record_at, draw(state, 2));
-        record_at = put(space, record_at, 0);
-        record_at = put_word(space, record_at, between(parent_at, start));
-        record_at = put_word(space, record_at, between(start, end));
+        end = put_parents(space, state, start, class, plan.chance);
+        let offset = between(parent_at, start);
+        let len = between(start, end);
+        record_at = put_class(space, record_at, draw(state, 2), offset, len);
         class += 1;
     }
     end
 }
 
-fn put_functions(space: &mut [u8], state: &mut u64, at: usize, functions: usize) -> usize {
-    let mut end = at;
-    let mut left = functions;
-    while left > 0 {
-        end = put(space, end, draw(state, 4));
-        left -= 1;
-    }
-    end
-}
-
-fn put_zeros(space: &mut [u8], at: usize, count: usize) -> usize {
-    let mut end = at;
-    let mut left = count;
-    while left > 0 {
-        end = put(space, end, 0);
-        left -= 1;
-    }
-    end
-}
+// The bytes of a method's record.
+const METHOD: usize = 12;
 
 // What tells methods apart.
 struct Head {
@@ -137,7 +120,7 @@ fn draw_head(space: &[u8], state: &mut u64, function_at: usize, plan: Plan) -> H
     requires { ⌜ 0 < plan .classes ⌝ }
 {
     let function = draw(state, plan.functions);
-    let arity = get(space, after(function_at, function));
+    let arity = byte(space, after(function_at, function));
     Head {
         function,
         s0: draw_specialiser(state, arity > 0, plan.classes),
@@ -148,10 +131,10 @@ fn draw_head(space: &[u8], state: &mut u64, function_at: usize, plan: Plan) -> H
 
 impl Head {
     fn is_at(self, space: &[u8], at: usize) -> bool {
-        self.function == get(space, at)
-            && self.s0 == get(space, after(at, 1))
-            && self.s1 == get(space, after(at, 2))
-            && self.s2 == get(space, after(at, 3))
+        self.function == byte(space, at)
+            && self.s0 == byte(space, after(at, 1))
+            && self.s1 == byte(space, after(at, 2))
+            && self.s2 == byte(space, after(at, 3))
     }
 
     // Whether one of so many methods has it.
@@ -162,65 +145,100 @@ impl Head {
             if self.is_at(space, at) {
                 return true;
             }
-            at = after(at, 12);
+            at = after(at, METHOD);
             left -= 1;
         }
         false
     }
 
-    // Writes the method's record: declared classes and result class 0, and a body of one instruction.
-    fn put_method(self, space: &mut [u8], at: usize, method: usize) -> usize {
-        let mut end = put(space, at, self.function);
-        end = put(space, end, self.s0);
-        end = put(space, end, self.s1);
-        end = put(space, end, self.s2);
-        end = put_zeros(space, end, 4);
-        end = put_word(space, end, std::num::wrapping_add_usize(method, method));
-        put_word(space, end, 2)
+    // The method's record: declared classes and result class 0, and a body of one instruction.
+    fn record(self, body_offset: usize) -> [u8; METHOD] {
+        [
+            low(self.function),
+            low(self.s0),
+            low(self.s1),
+            low(self.s2),
+            0,
+            0,
+            0,
+            0,
+            low(body_offset),
+            high(body_offset),
+            2,
+            0,
+        ]
     }
 }
 
-// Where the methods end, and how many there are.
-struct Methods {
-    end: usize,
-    count: usize,
-}
-
-// Draws so many methods. One that is a twin of an earlier one is left out.
-fn put_methods(
+// Draws a method, for which the sections of functions and of methods are given, and writes it. A twin of an earlier one is left out.
+fn put_method(
     space: &mut [u8],
     state: &mut u64,
     function_at: usize,
     method_at: usize,
+    at: usize,
     plan: Plan,
-) -> Methods
+) -> usize
     requires { ⌜ 0 < plan .functions ⌝ }
     requires { ⌜ 0 < plan .classes ⌝ }
 {
-    let mut end = method_at;
-    let mut count = 0;
-    let mut left = plan.methods;
-    while left > 0 {
-        left -= 1;
-        let head = draw_head(space, state, function_at, plan);
-        if head.is_among(space, method_at, count) {
-            continue;
-        }
-        end = head.put_method(space, end, count);
-        count = after(count, 1);
+    let before = between(method_at, at) / METHOD;
+    let head = draw_head(space, state, function_at, plan);
+    if head.is_among(space, method_at, before) {
+        return at;
     }
-    Methods { end, count }
+    put(space, at, &head.record(after(before, before)))
 }
 
-// Writes the body of each method: NEW 0.
-fn put_code(space: &mut [u8], at: usize, methods: usize) -> usize {
-    let mut end = at;
-    let mut left = methods;
+// What is written one after the other.
+enum Record {
+    Function,
+    // Of function 0, with class 0 at every place.
+    Signature,
+    // With where the functions begin.
+    Method(usize),
+    // NEW 0.
+    Body,
+}
+
+// Writes so many records, and answers where they end.
+fn put_records(
+    space: &mut [u8],
+    state: &mut u64,
+    kind: Record,
+    start: usize,
+    count: usize,
+    plan: Plan,
+) -> usize
+    requires { ⌜ 0 < plan .functions ⌝ }
+    requires { ⌜ 0 < plan .classes ⌝ }
+{
+    let mut end = start;
+    let mut left = count;
     while left > 0 {
-        end = put_word(space, end, 1);
+        end = put_record(space, state, kind, start, end, plan);
         left -= 1;
     }
     end
+}
+
+fn put_record(
+    space: &mut [u8],
+    state: &mut u64,
+    kind: Record,
+    start: usize,
+    at: usize,
+    plan: Plan,
+) -> usize
+    requires { ⌜ 0 < plan .functions ⌝ }
+    requires { ⌜ 0 < plan .classes ⌝ }
+{
+    match kind {
+        Record::Function => put_byte(space, at, draw(state, 4)),
+        Record::Signature => put(space, at, &[0u8; 5]),
+        Record::Method(function_at) => put_method(space, state, function_at, start, at, plan),
+        Record::Body => put(space, at, &[1u8, 0u8]),
+    }
 }
 
 // Where the sections begin, and where the last ends.
@@ -240,13 +258,27 @@ fn put_sections(space: &mut [u8], state: &mut u64, plan: Plan) -> Sections
     requires { ⌜ 0 < plan .chance ⌝ }
 {
     let parent_at = 24 + 6 * plan.classes;
-    let function_at = put_classes(space, state, plan.classes, parent_at, plan.chance);
-    let signature_at = put_functions(space, state, function_at, plan.functions);
-    // Three signatures of function 0, with class 0 at every place: lookup has to step over them.
-    let method_at = put_zeros(space, signature_at, 15);
-    let methods = put_methods(space, state, function_at, method_at, plan);
-    let code_at = methods.end;
-    let end = put_code(space, code_at, methods.count);
+    let function_at = put_classes(space, state, parent_at, plan);
+    let signature_at = put_records(
+        space,
+        state,
+        Record::Function,
+        function_at,
+        plan.functions,
+        plan,
+    );
+    // Lookup has to step over the signatures.
+    let method_at = put_records(space, state, Record::Signature, signature_at, 3, plan);
+    let code_at = put_records(
+        space,
+        state,
+        Record::Method(function_at),
+        method_at,
+        plan.methods,
+        plan,
+    );
+    let bodies = between(method_at, code_at) / METHOD;
+    let end = put_records(space, state, Record::Body, code_at, bodies, plan);
     Sections {
         parent_at,
         function_at,
@@ -259,8 +291,8 @@ fn put_sections(space: &mut [u8], state: &mut u64, plan: Plan) -> Sections
 
 // Writes a pair of the directory, and answers where the next stands.
 fn put_span(space: &mut [u8], at: usize, start: usize, end: usize) -> usize {
-    let next = put_word(space, at, start);
-    put_word(space, next, between(start, end))
+    let len = between(start, end);
+    put(space, at, &[low(start), high(start), low(len), high(len)])
 }
 
 fn put_directory(space: &mut [u8], sections: Sections) {

@@ -1,153 +1,155 @@
 // Makes bundles and compares the library with the second implementation on them: every function with every tuple of classes, abstract ones too, and
 // every pair of classes; in large bundles only the tuples of a stride. The scratch is compared twice in each bundle.
 mod ancestry;
-mod answer;
 mod generator;
 mod lookup;
 mod made;
 mod matrix;
-mod print;
 mod question;
 mod record;
 
 use ancestry::HEIR;
-use ancestry::NEITHER;
 use ancestry::SAME;
-use answer::Answer;
-use bundle_rules::finding::Opening;
+use answers::opening::Opening;
 use curiumtoad::Send;
 use curiumtoad::Tuple;
 use curiumtoad::opening::open;
 use generator::draw;
 use made::Plan;
 use made::make;
-use matrix::SCRATCH;
-use matrix::is_matrix;
-use print::print;
-use print::print_count;
+use matrix::put_matrix;
 use question::Question;
 use record::arity;
 use record::class_count;
 use record::function_count;
+use reply::Reply;
+use test_support::buffer::SCRATCH;
+use test_support::counts::add_one;
+use test_support::print::print;
+use test_support::print::print_count;
+use test_support::replies::is_same;
+use test_support::replies::print_reply;
 ghost use Prim.Native.Nat.{_<_, _≤_};
 
 const BUNDLES: usize = 64;
 
-// Calls and bundles so far, the calls that differ and the bundles that do not open. The rest says how often each kind of answer came, so that a
-// comparison in which a kind is missing shows.
-struct Totals {
-    calls: u64,
-    differing: u64,
-    bundles: u64,
-    unopened: u64,
-    exact: u64,
-    inexact: u64,
-    missing: u64,
-    ambiguous: u64,
-    same: u64,
-    heir: u64,
-    neither: u64,
+// What is counted: calls, those that differ, bundles, and those that do not open. The rest says how often each kind of answer came, so that a comparison in
+// which a kind is missing shows.
+const COUNTS: usize = 11;
+
+const CALLS: usize = 0;
+
+const DIFFERING: usize = 1;
+
+const MADE: usize = 2;
+
+const UNOPENED: usize = 3;
+
+const EXACT: usize = 4;
+
+const INEXACT: usize = 5;
+
+const MISSING: usize = 6;
+
+const AMBIGUOUS: usize = 7;
+
+const OF_SAME: usize = 8;
+
+const OF_HEIR: usize = 9;
+
+const OF_NEITHER: usize = 10;
+
+// The count that an answer belongs to. A refusal belongs to none.
+fn kind(question: Question, got: Reply) -> usize {
+    let number = got.number;
+    let values = got.values;
+    if number == 10 {
+        return MISSING;
+    }
+    if number == 11 {
+        return AMBIGUOUS;
+    }
+    if number != 0 {
+        return COUNTS;
+    }
+    if question.is_lookup {
+        return if values[1] == 1 { EXACT } else { INEXACT };
+    }
+    if values[0] == SAME {
+        return OF_SAME;
+    }
+    if values[0] == HEIR {
+        return OF_HEIR;
+    }
+    OF_NEITHER
 }
 
-fn one_more(count: u64, is_more: bool) -> u64 {
-    if is_more {
-        return std::num::wrapping_add_u64(count, 1);
-    }
-    count
-}
-
-impl Totals {
-    fn new() -> Totals {
-        Totals {
-            calls: 0,
-            differing: 0,
-            bundles: 0,
-            unopened: 0,
-            exact: 0,
-            inexact: 0,
-            missing: 0,
-            ambiguous: 0,
-            same: 0,
-            heir: 0,
-            neither: 0,
-        }
-    }
-
-    fn with_bundle(self, opens: bool) -> Totals {
-        Totals {
-            calls: self.calls,
-            differing: self.differing,
-            bundles: one_more(self.bundles, true),
-            unopened: one_more(self.unopened, !opens),
-            exact: self.exact,
-            inexact: self.inexact,
-            missing: self.missing,
-            ambiguous: self.ambiguous,
-            same: self.same,
-            heir: self.heir,
-            neither: self.neither,
-        }
-    }
-
-    fn with_call(self, question: Question, got: Answer, is_same: bool) -> Totals {
-        let is_lookup = question.is_lookup;
-        let is_found = is_lookup && got.number == 0;
-        let is_told = !is_lookup && got.number == 0;
-        Totals {
-            calls: one_more(self.calls, true),
-            differing: one_more(self.differing, !is_same),
-            bundles: self.bundles,
-            unopened: self.unopened,
-            exact: one_more(self.exact, is_found && got.second == 1),
-            inexact: one_more(self.inexact, is_found && got.second == 0),
-            missing: one_more(self.missing, got.number == 10),
-            ambiguous: one_more(self.ambiguous, got.number == 11),
-            same: one_more(self.same, is_told && got.first == SAME),
-            heir: one_more(self.heir, is_told && got.first == HEIR),
-            neither: one_more(self.neither, is_told && got.first == NEITHER),
-        }
-    }
-
-    fn print(self) {
-        print_count(b"lookup compared ", self.calls);
-        print_count(b" differing ", self.differing);
-        print_count(b" bundles ", self.bundles);
-        print_count(b" unopened ", self.unopened);
-        print_count(b"\nexact ", self.exact);
-        print_count(b" inexact ", self.inexact);
-        print_count(b" missing ", self.missing);
-        print_count(b" ambiguous ", self.ambiguous);
-        print_count(b" same ", self.same);
-        print_count(b" heir ", self.heir);
-        print_count(b" neither ", self.neither);
-        print(b"\n");
+fn count_bundle(counts: &mut [u64; COUNTS], opens: bool) {
+    add_one(counts, MADE);
+    if !opens {
+        add_one(counts, UNOPENED);
     }
 }
 
-// The first call that differs: its number, the bundle it is put to, in what it differs, what is asked, and both answers.
-fn print_first(totals: Totals, what: &[u8], question: Question, got: Answer, second: Answer) {
-    if totals.differing > 0 {
-        return;
-    }
-    print_count(b"differs ", totals.calls);
-    print_count(b" bundle ", totals.bundles);
-    print(what);
-    question.print();
-    print(b" got");
-    got.print();
-    print(b" second");
-    second.print();
+fn print_counts(counts: &[u64; COUNTS]) {
+    print_count(b"lookup compared ", counts[CALLS]);
+    print_count(b" differing ", counts[DIFFERING]);
+    print_count(b" bundles ", counts[MADE]);
+    print_count(b" unopened ", counts[UNOPENED]);
+    print_count(b"\nexact ", counts[EXACT]);
+    print_count(b" inexact ", counts[INEXACT]);
+    print_count(b" missing ", counts[MISSING]);
+    print_count(b" ambiguous ", counts[AMBIGUOUS]);
+    print_count(b" same ", counts[OF_SAME]);
+    print_count(b" heir ", counts[OF_HEIR]);
+    print_count(b" neither ", counts[OF_NEITHER]);
     print(b"\n");
 }
 
-fn compare(bundle: &[u8], scratch: &mut [u8], question: Question, totals: Totals) -> Totals {
-    let got = question.answer(bundle, scratch);
-    let second = question.second_answer(bundle);
-    let is_same = got.is_same(second);
-    if !is_same {
-        print_first(totals, b" answer", question, got, second);
+// The first call that differs: its number, the bundle it is put to, what is asked, both answers, and whether the scratch is not as it has to be.
+fn print_first(
+    counts: &[u64; COUNTS],
+    question: Question,
+    got: Reply,
+    second: Reply,
+    is_scratch: bool,
+) {
+    if counts[DIFFERING] > 0 {
+        return;
     }
-    totals.with_call(question, got, is_same)
+    print_count(b"differs ", counts[CALLS]);
+    print_count(b" bundle ", counts[MADE]);
+    question.print();
+    print(b" got");
+    print_reply(got);
+    print(b" second");
+    print_reply(second);
+    if !is_scratch {
+        print(b" scratch");
+    }
+    print(b"\n");
+}
+
+// Counts a call, by its answer and whether the scratch is as it has to be.
+fn judge(
+    bundle: &[u8],
+    question: Question,
+    got: Reply,
+    is_scratch: bool,
+    counts: &mut [u64; COUNTS],
+) {
+    let second = question.second_answer(bundle);
+    if !is_scratch || !is_same(got, second) {
+        print_first(counts, question, got, second, is_scratch);
+        add_one(counts, DIFFERING);
+    }
+    add_one(counts, CALLS);
+    add_one(counts, kind(question, got));
+}
+
+fn compare(bundle: &[u8], scratch: &mut [u8], question: Question, counts: &mut [u64; COUNTS]) {
+    let got = question.answer(bundle, scratch);
+    judge(bundle, question, got, true, counts);
 }
 
 // How many tuples a function of so many arguments has where there are 128 classes. Tuples are numbered so in every bundle, which leaves numbers out.
@@ -204,12 +206,11 @@ fn compare_tuples(
     is_lookup: bool,
     function: usize,
     arity: usize,
-    totals: Totals,
-) -> Totals {
+    counts: &mut [u64; COUNTS],
+) {
     let classes = class_count(bundle);
     let step = stride(classes, arity);
     let limit = tuple_limit(arity);
-    let mut totals = totals;
     let mut next = 0;
     while next < limit {
         let tuple = next;
@@ -217,44 +218,33 @@ fn compare_tuples(
         if !is_present(tuple, classes) {
             continue;
         }
-        totals = compare(
+        compare(
             bundle,
             scratch,
             question_of(is_lookup, function, tuple),
-            totals,
+            counts,
         );
     }
-    totals
 }
 
-fn compare_functions(bundle: &[u8], scratch: &mut [u8], totals: Totals) -> Totals {
+fn compare_functions(bundle: &[u8], scratch: &mut [u8], counts: &mut [u64; COUNTS]) {
     let functions = function_count(bundle);
-    let mut totals = totals;
     let mut function = 0;
     while function < functions {
         let places = arity(bundle, function);
-        totals = compare_tuples(bundle, scratch, true, function, places, totals);
+        compare_tuples(bundle, scratch, true, function, places, counts);
         function += 1;
     }
-    totals
 }
 
-// Compares a scratch that held this byte everywhere. One that differs counts as a call that does.
-fn compare_scratch(bundle: &[u8], filler: u8, totals: Totals) -> Totals {
+// Compares what a call leaves in a scratch that held this byte everywhere.
+fn compare_scratch(bundle: &[u8], filler: u8, counts: &mut [u64; COUNTS]) {
     let question = question_of(false, 0, 0);
     let mut scratch = [filler; SCRATCH];
+    let mut left = [filler; SCRATCH];
+    put_matrix(bundle, &mut left);
     let got = question.answer(bundle, &mut scratch);
-    let is_same = is_matrix(bundle, &scratch, filler);
-    if !is_same {
-        print_first(
-            totals,
-            b" scratch",
-            question,
-            got,
-            question.second_answer(bundle),
-        );
-    }
-    totals.with_call(question, got, is_same)
+    judge(bundle, question, got, check::same(&scratch, &left), counts);
 }
 
 fn opens(bundle: &[u8]) -> bool {
@@ -264,16 +254,17 @@ fn opens(bundle: &[u8]) -> bool {
     }
 }
 
-fn compare_bundle(bundle: &[u8], scratch: &mut [u8], totals: Totals) -> Totals {
+fn compare_bundle(bundle: &[u8], scratch: &mut [u8], counts: &mut [u64; COUNTS]) {
     if !opens(bundle) {
-        return totals.with_bundle(false);
+        count_bundle(counts, false);
+        return;
     }
     // A byte that is not written cannot be right both times.
-    let mut totals = compare_scratch(bundle, 0, totals);
-    totals = compare_scratch(bundle, 255, totals);
-    totals = compare_tuples(bundle, scratch, false, 0, 2, totals);
-    totals = compare_functions(bundle, scratch, totals);
-    totals.with_bundle(true)
+    compare_scratch(bundle, 0, counts);
+    compare_scratch(bundle, 255, counts);
+    compare_tuples(bundle, scratch, false, 0, 2, counts);
+    compare_functions(bundle, scratch, counts);
+    count_bundle(counts, true);
 }
 
 // Bundles of four sizes take turns, and every eighth is as large as may be.
@@ -307,25 +298,25 @@ fn draw_plan(state: &mut u64, number: usize) -> Plan
     }
 }
 
-fn compare_all(space: &mut [u8], scratch: &mut [u8]) -> Totals {
+fn compare_all(space: &mut [u8], scratch: &mut [u8], counts: &mut [u64; COUNTS]) {
     let mut state: u64 = 2718281828;
-    let mut totals = Totals::new();
     let mut number = 0;
     while number < BUNDLES {
         let plan = draw_plan(&mut state, number);
         let len = make(space, &mut state, plan);
         number += 1;
         if len > space.len() {
-            totals = totals.with_bundle(false);
+            count_bundle(counts, false);
             continue;
         }
-        totals = compare_bundle(&space[..len], scratch, totals);
+        compare_bundle(&space[0..len], scratch, counts);
     }
-    totals
 }
 
 fn main() {
     let mut space = io::large_buffer();
     let mut scratch = [0u8; SCRATCH];
-    compare_all(&mut space, &mut scratch).print();
+    let mut counts = [0u64; COUNTS];
+    compare_all(&mut space, &mut scratch, &mut counts);
+    print_counts(&counts);
 }

@@ -1,22 +1,6 @@
 // What ancestry and lookup need of the records, read straight from the bytes.
+use test_support::buffer::byte;
 ghost use Prim.Native.Nat.{_<_, _≤_};
-
-// A byte as a number to count with.
-fn wide(x: u8) -> usize
-    ensures { λ r. ⌜ r < 256 ⌝ }
-{
-    x as usize
-}
-
-// The byte at a place, 0 past the end.
-fn byte(bundle: &[u8], at: usize) -> usize
-    ensures { λ r. ⌜ r < 256 ⌝ }
-{
-    if at < bundle.len() {
-        return wide(bundle[at]);
-    }
-    0
-}
 
 // The two-byte number at a place. No place of a bundle comes near the limit.
 fn word(bundle: &[u8], at: usize) -> usize

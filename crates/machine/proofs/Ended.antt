@@ -3,57 +3,40 @@
 use Prim.Native.Nat.{ℕ, suc, _+_, _*_, _≤_, _<_}
 use native.Mathlib.Omega.{arith}
 use mathlib.Core.Path.{_≡_, refl, sym, ap, ap₂, _∙_}
-use mathlib.Core.Bool.{true}
+use mathlib.Core.Bool.{true, false≢true}
 use mathlib.Core.List.{List, [], _∷_}
 use lib.Dec.{ltb}
 use lib.ListN.{length, getD, drop, length-set, drop-of-length-le}
 use lib.Seq.{drop-cons}
 use borrow.Author.Tests.{ltb-true, lt-ltb}
+use Rattle.rules.specs.Numbers as numbers
 use Rattle.rules.specs.Bounded.{every}
 use Rattle.rules.specs.Model.{Model, Instr, arg, present}
-use Rattle.rules.specs.Machine.{Frame, Resumption, goes, ends, value, stopped, stoppedAt, settle, push, resume, maxFrames}
+use Rattle.rules.specs.Machine.{Frame, goes, ends, value, stopped, stoppedAt, settled, settle, push, proceed, returnTo, resume, maxFrames}
 use Rattle.rules.proofs.Lists.{and-left, and-both}
 use Rattle.frames.specs.Arrays.{frameNumbers, methodAt, nextAt, heightAt, stackAt, raised, laid}
 use Rattle.machine.specs.Held.{stackFrom, frameOf, callersOf, resumed, nextOf, split, FrameFits, Waits, Waiting, waiting, Held, held, Going, going}
 use Rattle.machine.proofs.Stores.{length-stack, numbers-of, waits-of, fits-of, waiting-of, has-frame, has-stack, StackRoom, pushed-frame, pushed-callers}
 
-module _ (stack : List ℕ) (g : Frame) (callers : List Frame) (return : ℕ → Resumption) where
-  settle-goes : (rest : List Instr) (i : Instr) (more : List Instr) → rest ≡ i ∷ more
-      → settle rest stack g callers return ≡ goes i (record { method = g .method; args = g .args; at = g .at; rest = more; stack = stack }) callers
-  unfolding settle
-  settle-goes rest i more e = rw e
-
-  settle-stops : (rest : List Instr) → rest ≡ [] → (length stack ≡ 1 → ⊥) → settle rest stack g callers return ≡ ends (stoppedAt 14 g)
-  unfolding settle
-  settle-stops rest e d = rw e (go stack d)
-    where
-      go : (s : List ℕ) → (length s ≡ 1 → ⊥) → settle [] s g callers return ≡ ends (stoppedAt 14 g)
-      go [] h = refl
-      go (v ∷ []) h = absurd (h refl)
-      go (v ∷ w ∷ vs) h = refl
-
-  settle-value : (rest : List Instr) (v : ℕ) → rest ≡ [] → stack ≡ v ∷ [] → settle rest stack g callers return ≡ return v
-  unfolding settle
-  settle-value rest v e f = rw (e, f)
-
 resume-goes : (g : Frame) (gs : List Frame) (i : Instr) (more : List Instr) → g .rest ≡ i ∷ more
     → resume g gs ≡ goes i (record { method = g .method; args = g .args; at = g .at; rest = more; stack = g .stack }) gs
-unfolding resume
-resume-goes g [] i more e = settle-goes (g .stack) g [] (λ v. ends (value v)) (g .rest) i more e
-resume-goes g (h ∷ hs) i more e = settle-goes (g .stack) g (h ∷ hs) (λ v. resume (push v h) hs) (g .rest) i more e
+unfolding resume proceed settle settled
+resume-goes g gs i more e = rw e
 
-resume-stops : (g : Frame) (gs : List Frame) → g .rest ≡ [] → (length (g .stack) ≡ 1 → ⊥) → resume g gs ≡ ends (stoppedAt 14 g)
-unfolding resume
-resume-stops g [] e d = settle-stops (g .stack) g [] (λ v. ends (value v)) (g .rest) e d
-resume-stops g (h ∷ hs) e d = settle-stops (g .stack) g (h ∷ hs) (λ v. resume (push v h) hs) (g .rest) e d
+resume-stops : (g : Frame) (gs : List Frame) → g .rest ≡ [] → (length (g .stack) ≡ 1 → ⊥) → resume g gs ≡ ends (stoppedAt numbers.badStack g)
+unfolding resume proceed settle settled
+resume-stops g gs e d = go (g .rest) (g .stack) e d
+  where
+    go : (rest : List Instr) (s : List ℕ) → rest ≡ [] → (length s ≡ 1 → ⊥) → proceed (settled rest s g) gs (λ v. returnTo gs v) ≡ ends (stoppedAt numbers.badStack g)
+    go (i ∷ rest) s q h = absurd (false≢true (cc))
+    go [] [] q h = refl
+    go [] (v ∷ []) q h = absurd (h refl)
+    go [] (v ∷ w ∷ vs) q h = refl
 
-resume-value : (g : Frame) (gs : List Frame) (v : ℕ) → gs ≡ [] → g .rest ≡ [] → g .stack ≡ v ∷ [] → resume g gs ≡ ends (value v)
-unfolding resume
-resume-value g gs v n e f = rw n (settle-value (g .stack) g [] (λ x. ends (value x)) (g .rest) v e f)
-
-resume-hands : (g h : Frame) (gs hs : List Frame) (v : ℕ) → gs ≡ h ∷ hs → g .rest ≡ [] → g .stack ≡ v ∷ [] → resume g gs ≡ resume (push v h) hs
-unfolding resume
-resume-hands g h gs hs v n e f = rw n (settle-value (g .stack) g (h ∷ hs) (λ x. resume (push x h) hs) (g .rest) v e f)
+-- a body that ended with one value returns it
+resume-returns : (g : Frame) (gs : List Frame) (v : ℕ) → g .rest ≡ [] → g .stack ≡ v ∷ [] → resume g gs ≡ returnTo gs v
+unfolding resume proceed settle settled
+resume-returns g gs v e f = rw (e, f)
 
 -- a caller that waited has room for the value
 fits-push : (M : Model) (v : ℕ) (g : Frame) → FrameFits M 1 g → v < M .classes → FrameFits M 0 (push v g)
@@ -79,7 +62,7 @@ module _ (M : Model) (fs vs : List ℕ) where
 
   -- one value is left on the stack, or the run stops by 14 (M 8.4)
   pub resumed-stops : (k : ℕ) → length (M .body (methodAt fs k)) ≤ nextAt fs k → (heightAt fs k ≡ 1 → ⊥)
-      → resumed M fs vs k ≡ ends (stopped 14 (methodAt fs k ∷ nextAt fs k ∷ []))
+      → resumed M fs vs k ≡ ends (stopped numbers.badStack (methodAt fs k ∷ nextAt fs k ∷ []))
   unfolding resumed frameOf stoppedAt
   resumed-stops k e d =
       resume-stops _ (callersOf M fs vs k) (drop-of-length-le (M .body (methodAt fs k)) e)
@@ -91,9 +74,10 @@ module _ (M : Model) (fs vs : List ℕ) where
   -- the value of the opening body is the run's
   pub resumed-value : (k : ℕ) → k ≡ 0 → length (M .body (methodAt fs k)) ≤ nextAt fs k → heightAt fs k ≡ 1
       → resumed M fs vs k ≡ ends (value (getD vs (stackAt k) 0))
-  unfolding resumed frameOf callersOf
+  unfolding resumed frameOf callersOf returnTo
   resumed-value k z e f =
-      resume-value _ (callersOf M fs vs k) (getD vs (stackAt k) 0) (ap (callersOf M fs vs) z) (drop-of-length-le (M .body (methodAt fs k)) e) (one-value k f)
+      resume-returns _ (callersOf M fs vs k) (getD vs (stackAt k) 0) (drop-of-length-le (M .body (methodAt fs k)) e) (one-value k f)
+      ∙ ap (λ (j : ℕ). returnTo (callersOf M fs vs j) (getD vs (stackAt k) 0)) z
 
   -- the lowest value of a frame is a class
   value-present : (k : ℕ) → Held M fs vs k → heightAt fs k ≡ 1 → getD vs (stackAt k) 0 < M .classes
@@ -127,7 +111,7 @@ module _ (M : Model) (fs vs : List ℕ) where
     module _ (e : length (M .body (methodAt fs k)) ≤ nextAt fs k) (f : heightAt fs k ≡ 1) where
       hands : (resumed M (raised fs j) (laid fs vs j (getD vs (stackAt k) 0)) j ≡ resumed M fs vs k)
           × Held M (raised fs j) (laid fs vs j (getD vs (stackAt k) 0)) j
-      unfolding resumed frameOf
+      unfolding resumed resume returnTo frameOf
       hands =
           let v = getD vs (stackAt k) 0 in
           let room = caller-room in
@@ -136,7 +120,7 @@ module _ (M : Model) (fs vs : List ℕ) where
           let same = pushed-frame M fs vs j v room (fits .arity-few) in
           let below = pushed-callers M fs vs j v room rest in (
             ap₂ resume same (below .0)
-                ∙ sym (resume-hands (frameOf M fs vs k) (frameOf M fs vs j) (callersOf M fs vs k) (callersOf M fs vs j) v callers-more (drop-of-length-le (M .body (methodAt fs k)) e) (one-value k f)),
+                ∙ sym (resume-returns (frameOf M fs vs k) (callersOf M fs vs k) v (drop-of-length-le (M .body (methodAt fs k)) e) (one-value k f) ∙ ap (λ (gs : List Frame). returnTo gs v) callers-more),
             held (room .frame .few) (rw same (fits-push M v (frameOf M fs vs j) fits (value-present k h f))) (below .1),
           )
 

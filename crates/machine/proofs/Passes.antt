@@ -12,19 +12,22 @@ use lib.Dec.{ltb}
 use lib.ListN.{length, getD, take, drop, set, length-set, length-drop}
 use lib.Seq.{getD-set-same, getD-drop, take-suc, take-set-le}
 use borrow.Author.Tests.{ltb-true, lt-ltb, le-leb, lt-leb}
+use Rattle.rules.specs.Numbers as numbers
 use Rattle.rules.specs.Bounded.{every}
 use Rattle.rules.specs.Bytes.{byte, part}
 use Rattle.rules.specs.Layout.{places, padded}
 use Rattle.rules.specs.Model.{Model, Wellformed, present, arg, new, send}
 use Rattle.rules.specs.Types.{arguments}
-use Rattle.rules.specs.Machine.{Frame, push, after, resume, call, turn, made, failed, stopped, stoppedAt, maxFrames}
+use Rattle.rules.specs.Machine.{Frame, push, after, call, turn, made, failed, stopped, stoppedAt, maxFrames}
 use Rattle.rules.proofs.Lists.{and-left, and-right, and-both, every-places}
 use Rattle.rules.proofs.Places.{part-at, part-length}
 use Rattle.rules.proofs.Tuples.{padded-read}
 use Rattle.subclasses.specs.Places.{Arguments}
 use Rattle.subclasses.proofs.Asked.{class-below}
 use Rattle.frames.specs.Arrays.{frameNumbers, frameBytes, stackRoom, methodAt, nextAt, heightAt, stackAt, HasFrame, raised, laid, lowered, passed}
-use Rattle.machine.specs.Held.{stackFrom, frameOf, callersOf, resumed, split, turnAt, FrameFits, Waiting, waiting, Held, held, Going, going}
+use Rattle.machine.specs.Held.{stackFrom, frameOf, callersOf, split, turnAt, FrameFits, Waiting, waiting, Held, held, Going, going}
+use Rattle.machine.specs.Endings.{StepsTo}
+use Rattle.machine.specs.declared.ending.Stepped.the-variants as stepped
 use Rattle.machine.proofs.Stores.{length-stack, drop-stack, take-stack, kept, frame-of, callers-same, waiting-same, numbers-of, fits-of, waiting-of, waits-of, StackRoom, pushed-frame, pushed-callers, lowered-frame}
 
 pub held-of : {M : Model} {fs vs : List ℕ} {k : ℕ} → Going M fs vs k → Held M fs vs k
@@ -160,8 +163,9 @@ module _ (M : Model) (w : Wellformed M) (fs vs : List ℕ) (k : ℕ) (g : Going 
   -- a value is put
   module _ (v : ℕ) (below : v < M .classes) where
     puts : Held M (raised (passed fs k) k) (laid (passed fs k) vs k v) k
-        × (resumed M (raised (passed fs k) k) (laid (passed fs k) vs k v) k ≡ resume (after (split M top) (v ∷ top .stack)) (callersOf M fs vs k))
-    unfolding resumed push after
+        × (made (frameOf M (raised (passed fs k) k) (laid (passed fs k) vs k v) k) (callersOf M (raised (passed fs k) k) (laid (passed fs k) vs k v) k)
+        ≡ made (after (split M top) (v ∷ top .stack)) (callersOf M fs vs k))
+    unfolding push after
     puts =
         let n = numbers-of (held-of g) in
         let s = fits-of (held-of g) in
@@ -172,11 +176,11 @@ module _ (M : Model) (w : Wellformed M) (fs vs : List ℕ) (k : ℕ) (g : Going 
         pushed-frame M (passed fs k) vs k v room (rw method arity-few) ∙ ap (push v) (passed-frame M fs vs k (n .frame)) in
         let fits = fits-after M 0 top (v ∷ top .stack) w s top-left (omega (arith, s .room)) (present-more M v (top .stack) below (s .values-present)) in
         let callers = pushed-callers M (passed fs k) vs k v room (rest .1) in
-        (held (n .frame .few) (rw same fits) (callers .1), ap₂ resume same (callers .0 ∙ rest .0))
+        (held (n .frame .few) (rw same fits) (callers .1), ap₂ made same (callers .0 ∙ rest .0))
 
-    pub put-resumed : (fs′ fs″ vs′ : List ℕ) → fs′ ≡ passed fs k → fs″ ≡ raised fs′ k → vs′ ≡ laid fs′ vs k v
-        → Held M fs″ vs′ k × (resumed M fs″ vs′ k ≡ resume (after (split M top) (v ∷ top .stack)) (callersOf M fs vs k))
-    put-resumed fs′ fs″ vs′ e p q = rw (p, q, e) puts
+    pub put-made : (fs′ fs″ vs′ : List ℕ) → fs′ ≡ passed fs k → fs″ ≡ raised fs′ k → vs′ ≡ laid fs′ vs k v
+        → StepsTo M fs″ vs′ (stepped.Made k) (made (after (split M top) (v ∷ top .stack)) (callersOf M fs vs k))
+    put-made fs′ fs″ vs′ e p q = rw (p, q, e) (record { turned = puts .1; holding = puts .0 })
 
   pub lowered-next : (j : ℕ) (fs′ : List ℕ) → fs′ ≡ lowered fs k j → HasFrame fs′ k × (nextAt fs′ k < stackRoom)
   lowered-next j fs′ e =
@@ -240,7 +244,7 @@ module _ (M : Model) (w : Wellformed M) (fs vs : List ℕ) (k : ℕ) (g : Going 
         rw (r, read, q, p, add-one k) (sent-arguments e few below, sent-waiting, sends e few)
 
   -- 14 where there are fewer values than arguments
-  pub send-stops : (f : ℕ) → heightAt fs k < M .arity f → turnAt M fs vs k (send f) ≡ failed (stopped 14 (methodAt fs k ∷ nextAt fs k ∷ []))
+  pub send-stops : (f : ℕ) → heightAt fs k < M .arity f → turnAt M fs vs k (send f) ≡ failed (stopped numbers.badStack (methodAt fs k ∷ nextAt fs k ∷ []))
   unfolding turnAt turn frameOf split stoppedAt
   send-stops f h =
       let few : length (stackFrom vs (stackAt k) (heightAt fs k)) < M .arity f = omega (arith, length-stack vs (stackAt k) (heightAt fs k)) in
@@ -248,15 +252,15 @@ module _ (M : Model) (w : Wellformed M) (fs vs : List ℕ) (k : ℕ) (g : Going 
 
   -- ARG and NEW put a value; NEW of an abstract class is 15
   pub arg-puts : (i : ℕ) → turnAt M fs vs k (arg i)
-      ≡ made (resume (after (split M (frameOf M fs vs k)) (getD (frameOf M fs vs k .args) i 0 ∷ frameOf M fs vs k .stack)) (callersOf M fs vs k))
+      ≡ made (after (split M (frameOf M fs vs k)) (getD (frameOf M fs vs k .args) i 0 ∷ frameOf M fs vs k .stack)) (callersOf M fs vs k)
   unfolding turnAt turn split
   arg-puts i = refl
 
   pub new-puts : (c : ℕ) → M .concrete c ≡ true → turnAt M fs vs k (new c)
-      ≡ made (resume (after (split M (frameOf M fs vs k)) (c ∷ frameOf M fs vs k .stack)) (callersOf M fs vs k))
+      ≡ made (after (split M (frameOf M fs vs k)) (c ∷ frameOf M fs vs k .stack)) (callersOf M fs vs k)
   unfolding turnAt turn split
   new-puts c e = rw e
 
-  pub new-stops : (c : ℕ) → M .concrete c ≡ false → turnAt M fs vs k (new c) ≡ failed (stopped 15 (methodAt fs k ∷ nextAt fs k ∷ []))
+  pub new-stops : (c : ℕ) → M .concrete c ≡ false → turnAt M fs vs k (new c) ≡ failed (stopped numbers.abstractNew (methodAt fs k ∷ nextAt fs k ∷ []))
   unfolding turnAt turn frameOf split stoppedAt
   new-stops c e = rw e

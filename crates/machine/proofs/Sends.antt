@@ -4,20 +4,27 @@ use Prim.Native.Nat.{ℕ, zero, suc, _+_, _*_, _≤_, _<_}
 use native.Mathlib.Omega.{arith}
 use mathlib.Core.Path.{_≡_, refl, sym, ap, ap₂, _∙_}
 use mathlib.Core.Bool.{true, false}
-use mathlib.Core.List.{List, [], _∷_, _++_, append-nil}
+use mathlib.Core.List.{List, [], _∷_, _++_}
 use lib.ListN.{length, take, drop, set, length-set}
 use lib.Seq.{getD-set-same, take-set-le, take-length, take-take, take-at, drop-at, take-paste, length-paste, length-take-le}
 use borrow.Author.Tests.{lt-ltb, le-ltb}
+use Rattle.rules.specs.Numbers as numbers
 use Rattle.rules.specs.Bounded.{every}
 use Rattle.rules.specs.Bytes.{part}
 use Rattle.rules.specs.Layout.{places, padded}
 use Rattle.rules.specs.Model.{Model, Wellformed, present}
-use Rattle.rules.specs.Lookup.{found, missing, ambiguous, lookup}
+use Rattle.rules.specs.Lookup.{found, lookup}
 use Rattle.rules.specs.Coverage.{declaredHold}
-use Rattle.rules.specs.Machine.{Frame, made, failed, deep, stopped, resume, targetFound, target, enter, callTarget, call, maxFrames}
+use Rattle.rules.specs.Machine.{Frame, made, failed, stopped, targetFound, target, opened, enter, callTarget, call, maxFrames}
+use Rattle.answers.specs.declared.failure.NotFound.{NotFound}
+use Rattle.answers.specs.declared.failure.NotFound.the-variants.{Missing, Ambiguous}
+use Rattle.answers.specs.Failures.{notFound, notFoundNumber, notFoundMethods}
 use Rattle.subclasses.specs.Places.{Arguments}
 use Rattle.frames.specs.Arrays.{frameNumbers, frameBytes, HasFrame, HasStack, begun, given}
-use Rattle.machine.specs.Held.{frameWith, frameOf, callersOf, resumed, FrameFits, Waiting, Held, held}
+use Rattle.machine.specs.Held.{frameWith, frameOf, callersOf, FrameFits, Waiting, Held, held}
+use Rattle.machine.specs.Endings.{Enters, StepsTo}
+use Rattle.machine.specs.declared.ending.Stepped.{Stepped}
+use Rattle.machine.specs.declared.ending.Stepped.the-variants as stepped
 use Rattle.machine.proofs.Stores.{part-prefix, kept, frame-of, callers-same, waiting-same, waits-of, has-frame, has-stack}
 
 -- frame k opened for method m
@@ -69,14 +76,10 @@ module _ (vs : List ℕ) (k : ℕ) (args : List ℕ) (s : HasStack vs k) (few : 
 pub arguments-few : {M : Model} {f : ℕ} {args : List ℕ} → Wellformed M → Arguments M f args → length args ≤ places
 arguments-few {f = f} w a = omega (arith, a .arity, w .arity-limit f (a .function))
 
--- the frame that a send opens, as the rules have it
-abbrev pub opened : Model → ℕ → List ℕ → Frame
-opened M m args = record { method = m; args = args; at = 0; rest = M .body m; stack = [] }
-
 module _ (M : Model) (w : Wellformed M) (fs vs : List ℕ) (k m f : ℕ) (args fs′ vs′ : List ℕ) where
   pub entered : k < maxFrames → fs′ ≡ begun fs k m → vs′ ≡ given vs k args → Waiting M fs vs k → m < M .methods → M .function m ≡ f → Arguments M f args
-      → Held M fs′ vs′ k × (resumed M fs′ vs′ k ≡ resume (opened M m args) (callersOf M fs vs k))
-  unfolding resumed present every
+      → Held M fs′ vs′ k × (made (frameOf M fs′ vs′ k) (callersOf M fs′ vs′ k) ≡ made (opened M m args) (callersOf M fs vs k))
+  unfolding opened present every
   entered below e g all h q a =
       let fr = has-frame all k below in
       let st = has-stack all k below in
@@ -97,38 +100,42 @@ module _ (M : Model) (w : Wellformed M) (fs vs : List ℕ) (k m f : ℕ) (args f
       let p = begun-below fs k m in
       let r = given-below vs k args st few in
       rw (e, g)
-      (held below (rw now fits) (waiting-same M fs (begun fs k m) vs (given vs k args) k p r (begun-length fs k m) (given-length vs k args st few) all), ap₂ resume now (callers-same M fs (begun fs k m) vs (given vs k args) k p r (waits-of all)))
+      (held below (rw now fits) (waiting-same M fs (begun fs k m) vs (given vs k args) k p r (begun-length fs k m) (given-length vs k args st few) all), ap₂ made now (callers-same M fs (begun fs k m) vs (given vs k args) k p r (waits-of all)))
 
--- a send tries 10, 11, 12, then Deep
-pub length-callers : (M : Model) (fs vs : List ℕ) (n : ℕ) → length (callersOf M fs vs n) ≡ n
+length-callers : (M : Model) (fs vs : List ℕ) (n : ℕ) → length (callersOf M fs vs n) ≡ n
 unfolding callersOf
 length-callers M fs vs zero = refl
 length-callers M fs vs (suc n) = ap suc (length-callers M fs vs n)
 
+-- what the arrays hold after a frame was opened in them is what the rules say
+pub enters-as : {M : Model} → Wellformed M → {fs vs args fs′ vs′ : List ℕ} {k m f : ℕ} (r : Stepped) → Enters fs vs args m k fs′ vs′ r → Waiting M fs vs k
+    → m < M .methods → M .function m ≡ f → Arguments M f args → StepsTo M fs′ vs′ r (enter M m args (callersOf M fs vs k))
+unfolding enter
+enters-as {M} w {fs} {vs} {args} {fs′} {vs′} {k} {m} {f} (stepped.Made top) (same, below, e, g) all h q a =
+    let (on-top, now) = entered M w fs vs k m f args fs′ vs′ below e g all h q a in
+    let room = lt-ltb (length (callersOf M fs vs k)) maxFrames (omega (arith, length-callers M fs vs k, below)) in
+    rw same (record { turned = rw room now; holding = on-top })
+enters-as {M} w {fs} {vs} {k = k} (stepped.Failed e) (deep, full) all h q a =
+    let none = le-ltb (length (callersOf M fs vs k)) maxFrames (omega (arith, length-callers M fs vs k, full)) in
+    record { turned = rw none (ap failed deep); holding = tt }
+
+-- a send tries 10, 11, 12, then Deep
 module _ (M : Model) (f m : ℕ) (args : List ℕ) (callers : List Frame) where
   pub stops-declared : {values : List ℕ} → values ≡ f ∷ padded args → declaredHold M m args ≡ false
-      → failed (stopped 12 (values ++ m ∷ [])) ≡ callTarget M f args callers (targetFound M args (found m))
+      → failed (stopped numbers.narrowDeclared (values ++ m ∷ [])) ≡ callTarget M f args callers (targetFound M args (found m))
   unfolding callTarget targetFound
   stops-declared q e = rw (e, q)
 
-  pub stops-deep : declaredHold M m args ≡ true → maxFrames ≤ length callers → failed deep ≡ callTarget M f args callers (targetFound M args (found m))
-  unfolding callTarget targetFound enter
-  stops-deep e h = rw (e, le-ltb (length callers) maxFrames h)
-
-  pub enters-made : declaredHold M m args ≡ true → length callers < maxFrames
-      → made (resume (opened M m args) callers) ≡ callTarget M f args callers (targetFound M args (found m))
-  unfolding callTarget targetFound enter
-  enters-made e h = rw (e, lt-ltb (length callers) maxFrames h)
+  pub enters-found : declaredHold M m args ≡ true → enter M m args callers ≡ callTarget M f args callers (targetFound M args (found m))
+  unfolding callTarget targetFound
+  enters-found e = rw e
 
 module _ (M : Model) (f : ℕ) (args : List ℕ) (callers : List Frame) where
-  pub call-missing : {values : List ℕ} → values ≡ f ∷ padded args → missing ≡ lookup M f args → failed (stopped 10 values) ≡ call M f args callers
+  pub call-not-found : {values : List ℕ} (x : NotFound) → values ≡ f ∷ padded args → notFound x ≡ lookup M f args
+      → failed (stopped (notFoundNumber x) (values ++ notFoundMethods x)) ≡ call M f args callers
   unfolding call target targetFound callTarget
-  call-missing q e = rw (← e, q, append-nil)
-
-  pub call-ambiguous : {values : List ℕ} (m n : ℕ) → values ≡ f ∷ padded args → ambiguous m n ≡ lookup M f args
-      → failed (stopped 11 (values ++ m ∷ n ∷ [])) ≡ call M f args callers
-  unfolding call target targetFound callTarget
-  call-ambiguous m n q e = rw (← e, q)
+  call-not-found Missing q e = rw (← e, q)
+  call-not-found (Ambiguous m n) q e = rw (← e, q)
 
   pub call-found : (m : ℕ) → found m ≡ lookup M f args → callTarget M f args callers (targetFound M args (found m)) ≡ call M f args callers
   unfolding call target

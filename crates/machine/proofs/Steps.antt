@@ -9,4 +9,4 @@ use Rattle.machine.specs.Endings.{StepsTo}
 use Rattle.machine.specs.declared.ending.Stepped.{Stepped}
 
 pub steps-as : {M : Model} {fs vs : List ℕ} {r : Stepped} {t u : Turn} → StepsTo M fs vs r t → t ≡ u → StepsTo M fs vs r u
-steps-as s e = record { turned = s .turned ∙ e; onward = s .onward }
+steps-as s e = record { turned = s .turned ∙ e; holding = s .holding }

@@ -92,6 +92,9 @@ waits-of (waiting p q l w) = w
 pub waiting-few : {M : Model} {fs vs : List ℕ} {n : ℕ} → Waiting M fs vs n → n ≤ maxFrames
 waiting-few (waiting p q l w) = l
 
+pub waiting-long : {M : Model} {fs vs : List ℕ} {n : ℕ} → Waiting M fs vs n → (frameNumbers * maxFrames ≤ length fs) × (frameBytes * maxFrames ≤ length vs)
+waiting-long (waiting p q l w) = (p, q)
+
 -- the arrays have room for frame k
 pub has-frame : {M : Model} {fs vs : List ℕ} {n : ℕ} → Waiting M fs vs n → (k : ℕ) → k < maxFrames → HasFrame fs k
 has-frame (waiting p q l w) k h = record { few = h; long = p }

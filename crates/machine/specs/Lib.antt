@@ -1,3 +1,4 @@
 pub mod Held
 pub mod Endings
+pub mod Progress
 pub mod Outcome

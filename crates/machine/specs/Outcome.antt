@@ -4,5 +4,5 @@ use Rattle.rules.specs.Machine as rules
 use Rattle.machine.specs.Endings.{endingOf}
 use Rattle.machine.specs.declared.run.Outcome as outcome-type
 
-unfoldable pub outcomeOf : outcome-type.Outcome → rules.Outcome
+abbrev pub outcomeOf : outcome-type.Outcome → rules.Outcome
 outcomeOf o = record { ending = endingOf (o .ending); steps = o .steps }

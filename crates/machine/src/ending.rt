@@ -1,21 +1,18 @@
 // How a run ends, and what one instruction comes to.
-use subclasses::send::Send;
+use answers::failure::Failure;
+use answers::send::Send;
 
-// A value; the step count used up; the frames used up; or 10, 11 and 12 with the send and the methods, 14 and 15 with the method and its instruction.
+// A value; the step count used up; the frames used up; a send that fails; or the run is stopped by a number at an instruction of a method.
 pub enum Ending {
     Value(usize),
     Spent,
     Deep,
-    Missing(Send),
-    Ambiguous(Send, usize, usize),
-    Declared(Send, usize),
-    Values(usize, usize),
-    Abstract(usize, usize),
+    Fails(Send, Failure),
+    Stopped(u8, usize, usize),
 }
 
-// An instruction is made, and the run goes on with the frame on top or ends; or the instruction fails.
+// An instruction or a send is made, and leaves this frame on top; or it fails.
 pub(crate) enum Stepped {
-    Goes(usize),
-    Ends(Ending),
+    Made(usize),
     Failed(Ending),
 }

@@ -1,6 +1,7 @@
 // The machine: sends, returns and single instructions over frames in lent arrays, and the run of a send.
 mod call;
 pub mod ending;
+mod progress;
 mod returning;
 pub mod run;
 mod step;

@@ -1,8 +1,9 @@
-// One instruction of the frame on top, with the ends of bodies that follow it.
+// One instruction of the frame on top.
 use crate::call::call;
 use crate::ending::Ending;
 use crate::ending::Stepped;
-use crate::returning::return_values;
+use answers::number::ABSTRACT_NEW;
+use answers::number::BAD_STACK;
 use frames::frame::argument;
 use frames::frame::method;
 use frames::frame::next;
@@ -18,7 +19,7 @@ use layout::instruction::Instruction;
 ghost use Prim.Native.Nat.{_<_};
 ghost use mathlib.Core.List.{_∷_};
 ghost use Rattle.rules.specs.Model.{modelOf, arg, new, send};
-ghost use Rattle.rules.specs.Machine.{made, resume, after};
+ghost use Rattle.rules.specs.Machine.{made, after};
 ghost use Rattle.layout.specs.Opened.{Opened};
 ghost use Rattle.subclasses.specs.Prepared.{Prepared};
 ghost use Rattle.dispatch.specs.Index.{Indexed};
@@ -38,11 +39,11 @@ fn put(
     requires { ⌜ Opened (now bytes) b ⌝ }
     requires { ⌜ Going (modelOf (now bytes)) (now frames) (now values) top ⌝ }
     requires { ⌜ v < b .classes ⌝ }
-    ensures { λ r. ⌜ (let M = modelOf (now (bytes .entry)) in let g = frameOf M (now (frames .entry)) (now (values .entry)) top in StepsTo M (now (frames .exit)) (now (values .exit)) r (made (resume (after (split M g) (v ∷ g .stack)) (callersOf M (now (frames .entry)) (now (values .entry)) top)))) ⌝ }
+    ensures { λ r. ⌜ (let M = modelOf (now (bytes .entry)) in let g = frameOf M (now (frames .entry)) (now (values .entry)) top in StepsTo M (now (frames .exit)) (now (values .exit)) r (made (after (split M g) (v ∷ g .stack)) (callersOf M (now (frames .entry)) (now (values .entry)) top))) ⌝ }
 {
     pass(frames, top);
     push(frames, values, top, v);
-    return_values(bytes, b, frames, values, top)
+    Stepped::Made(top)
 }
 
 // ARG puts the argument at a place on the stack.
@@ -78,7 +79,11 @@ fn new(
     ensures { λ r. ⌜ (let M = modelOf (now (bytes .entry)) in StepsTo M (now (frames .exit)) (now (values .exit)) r (turnAt M (now (frames .entry)) (now (values .entry)) top (new c))) ⌝ }
 {
     if !is_concrete(bytes, b, c) {
-        return Stepped::Failed(Ending::Abstract(method(frames, top), next(frames, top)));
+        return Stepped::Failed(Ending::Stopped(
+            ABSTRACT_NEW,
+            method(frames, top),
+            next(frames, top),
+        ));
     }
     put(bytes, b, frames, values, top, c)
 }
@@ -102,7 +107,7 @@ fn send(
 {
     let n = arity(bytes, b, f);
     if height(frames, top) < n {
-        return Stepped::Failed(Ending::Values(method(frames, top), next(frames, top)));
+        return Stepped::Failed(Ending::Stopped(BAD_STACK, method(frames, top), next(frames, top)));
     }
     let args = pop(frames, values, top, n);
     pass(frames, top);
@@ -119,7 +124,7 @@ fn send(
     )
 }
 
-// The next instruction of the frame on top, with the ends of bodies that follow it.
+// The next instruction of the frame on top.
 pub(crate) fn step(
     bytes: &[u8],
     b: Bundle,

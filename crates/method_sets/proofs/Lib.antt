@@ -1,4 +1,4 @@
-pub mod Marks
 pub mod Orders
 pub mod Rows
+pub mod Stored
 pub mod Words

@@ -1,61 +1,92 @@
 -- Sets of methods as words of bits, by the positions of the methods in an order, and tables of such sets.
 -- Assumes nothing.
-use Prim.Native.Nat.{ℕ, _+_, _*_, _<_, _%_}
+use Prim.Native.Nat.{ℕ, _+_, _-_, _*_, _/_, _%_, _<_, _≤_}
 use mathlib.Core.Path.{_≡_}
-use mathlib.Core.Bool.{Bool, true, false}
+use mathlib.Core.Bool.{Bool, true, false, _&&_}
 use mathlib.Core.List.{List}
-use lib.Dec.{eqb}
+use lib.Dec.{eqb, ltb}
 use lib.ListN.{length, getD}
-use Rattle.rules.specs.Layout.{places, maxMethods}
+use Rattle.rules.specs.Bounded.{sum}
+use Rattle.rules.specs.Layout.{places, maxClasses, maxMethods}
 use Rattle.rules.specs.Model.{Model}
-use Rattle.rules.specs.Subclass.{subclass}
-use Rattle.rules.specs.Bits.{bit, inSet}
-use Rattle.rules.specs.Scratch.{entryAt}
+use Rattle.rules.specs.Bits.{bitAt, inSet}
+use Rattle.rules.specs.Scratch.{classUnder, entryAt}
 
 -- the words of a set, and of a table of sets
 abbrev pub setWords : ℕ
-setWords = 8
+setWords = maxMethods / 64
 
 abbrev pub tableWords : ℕ
-tableWords = 3072
+tableWords = places * (maxClasses * setWords)
 
 -- where a table has the set of a place and a class
 abbrev pub rowAt : ℕ → ℕ → ℕ
-rowAt place k = 1024 * place + 8 * k
+rowAt place k = maxClasses * setWords * place + setWords * k
+
+-- the set that begins at a word has the positions that pass a test and no others, so its words are known
+abbrev pub SetAt : List ℕ → ℕ → (ℕ → Bool) → Type 0
+SetAt words at test = (i : ℕ) → i < maxMethods → inSet words at i ≡ test i
+
+-- and one of its words, those from a position on
+abbrev pub WordOf : (ℕ → Bool) → ℕ → ℕ → Type 0
+WordOf test start bits = (j : ℕ) → j < 64 → bitAt bits j ≡ test (start + j)
+
+-- an answer is true exactly where a statement holds
+abbrev pub Decides : Bool → Type 0 → Type 0
+Decides r P = (r ≡ true → P) × (P → r ≡ true)
 
 -- every position of the set is in the one of the table
 abbrev pub Within : List ℕ → List ℕ → ℕ → Type 0
 Within set table at = (i : ℕ) → i < maxMethods → inSet set 0 i ≡ true → inSet table at i ≡ true
 
--- of the positions of the set, two sets of the table have the same
+-- of the positions of the set, two sets have the same, and two of a table
+abbrev pub SamePositions : List ℕ → List ℕ → ℕ → List ℕ → ℕ → Type 0
+SamePositions set xs a ys b = (i : ℕ) → i < maxMethods → inSet set 0 i ≡ true → inSet xs a i ≡ inSet ys b i
+
 abbrev pub SameWithin : List ℕ → List ℕ → ℕ → ℕ → Type 0
-SameWithin set table a b = (i : ℕ) → i < maxMethods → inSet set 0 i ≡ true → inSet table a i ≡ inSet table b i
+SameWithin set table a b = SamePositions set table a table b
 
--- the first n marks say which numbers pass a test
-pub record Marked (test : ℕ → Bool) (n : ℕ) (old new : List ℕ) : Type 0 where
-  pub same : length new ≡ length old
-  pub marks : (i : ℕ) → i < n → getD new i 0 ≡ bit (test i)
+-- the first position of the set, or the limit of methods where it has none
+pub record First (set : List ℕ) (r : ℕ) : Type 0 where
+  pub limit : r ≤ maxMethods
+  pub member : r < maxMethods → inSet set 0 r ≡ true
+  pub before : (i : ℕ) → i < r → inSet set 0 i ≡ false
 
--- the set that begins at a word has the positions that are marked, and what stands before it is as it was
-pub record Packed (marks old new : List ℕ) (at : ℕ) : Type 0 where
-  pub same : length new ≡ length old
-  pub kept : (j : ℕ) → j < at → getD new j 0 ≡ getD old j 0
-  pub packed : (i : ℕ) → i < length marks → inSet new at i ≡ eqb (getD marks i 0) 1
+-- A method with its weight above its number: the sum of its specialisers.
+unfoldable pub weighed : Model → ℕ → ℕ
+weighed M m = sum (λ p. getD (M .specialisers m) p 0) places * maxMethods + m
 
--- The methods in their order: each number of the first ones is a method, with its weight above it, and each method is there.
+-- the method at a position of an order
 unfoldable pub methodAt : List ℕ → ℕ → ℕ
 methodAt order i = getD order i 0 % maxMethods
 
-pub record Ordered (M : Model) (order : List ℕ) : Type 0 where
+-- The first n methods in their order: each of the first n numbers is one of them with its weight, each of them is there, the heaviest stands first, and what
+-- follows is 0. There is one such list.
+pub record OrderedTo (M : Model) (n : ℕ) (order : List ℕ) : Type 0 where
   pub long : length order ≡ maxMethods
-  pub methods : (i : ℕ) → i < M .methods → methodAt order i < M .methods
-  pub positions : (m : ℕ) → m < M .methods → (i : ℕ) × (i < M .methods) × (methodAt order i ≡ m)
+  pub methods : (i : ℕ) → i < n → methodAt order i < n
+  pub weights : (i : ℕ) → i < n → getD order i 0 ≡ weighed M (methodAt order i)
+  pub positions : (m : ℕ) → m < n → (i : ℕ) × (i < n) × (methodAt order i ≡ m)
+  pub falling : (i j : ℕ) → i < j → j < n → getD order j 0 ≤ getD order i 0
+  pub rest : (i : ℕ) → n ≤ i → getD order i 0 ≡ 0
 
--- the same numbers, in another order
-pub record Rearranged (old new : List ℕ) : Type 0 where
+abbrev pub Ordered : Model → List ℕ → Type 0
+Ordered M = OrderedTo M (M .methods)
+
+-- From position p on, the numbers before position n have moved by one; they are smaller than one that is to stand at p.
+pub record Moved (old new : List ℕ) (n own p : ℕ) : Type 0 where
+  pub within : p ≤ n
   pub same : length new ≡ length old
-  pub before : (i : ℕ) → i < length old → (j : ℕ) × (j < length old) × (getD old j 0 ≡ getD new i 0)
-  pub after : (j : ℕ) → j < length old → (i : ℕ) × (i < length old) × (getD new i 0 ≡ getD old j 0)
+  pub before : (i : ℕ) → i < p → getD new i 0 ≡ getD old i 0
+  pub behind : (i : ℕ) → p < i → i ≤ n → (getD new i 0 ≡ getD old (i - 1) 0) × (getD old (i - 1) 0 < own)
+  pub later : (i : ℕ) → n < i → getD new i 0 ≡ getD old i 0
+
+-- It stands there, and the number before it is not smaller.
+pub record Inserted (old new : List ℕ) (n own : ℕ) : Type 0 where
+  pub position : ℕ
+  pub moved : Moved old new n own position
+  pub here : getD new position 0 ≡ own
+  pub edge : 0 < position → own ≤ getD old (position - 1) 0
 
 -- the class of a method at a place: its declared class, or its specialiser
 unfoldable pub classOf : Bool → Model → ℕ → ℕ → ℕ
@@ -67,19 +98,33 @@ pub record Column (stated : Bool) (M : Model) (order : List ℕ) (place : ℕ) (
   pub long : length column ≡ maxMethods
   pub classes : (i : ℕ) → i < M .methods → (getD column i 0 ≡ classOf stated M (methodAt order i) place) × (getD column i 0 < M .classes)
 
--- the sets of the first classes at a place, by the entries of a scratch, and what stands before the place is as it was
-pub record Rows (scratch column : List ℕ) (place classes : ℕ) (old new : List ℕ) : Type 0 where
+-- a column has a class at the position, which by the entries of a scratch is above class k
+unfoldable pub columnAbove : List ℕ → List ℕ → ℕ → ℕ → Bool
+columnAbove scratch column k i = ltb i (length column) && entryAt scratch k (getD column i 0)
+
+-- the first n words of a place's sets, class by class, and what stands before and behind them is as it was
+pub record Rows (scratch column : List ℕ) (place n : ℕ) (old new : List ℕ) : Type 0 where
   pub same : length new ≡ length old
-  pub kept : (j : ℕ) → j < rowAt place 0 → getD new j 0 ≡ getD old j 0
-  pub told : (k i : ℕ) → k < classes → i < length column → inSet new (rowAt place k) i ≡ entryAt scratch k (getD column i 0)
+  pub before : (w : ℕ) → w < rowAt place 0 → getD new w 0 ≡ getD old w 0
+  pub told : (w : ℕ) → w < n → WordOf (columnAbove scratch column (w / setWords)) (64 * (w % setWords)) (getD new (rowAt place 0 + w) 0)
+  pub behind : (w : ℕ) → rowAt place 0 + n ≤ w → getD new w 0 ≡ getD old w 0
 
--- the sets of the first places: for each class the methods whose class at the place is above it
-abbrev pub TabledTo : Bool → Model → List ℕ → List ℕ → ℕ → Type 0
-TabledTo stated M order table n =
-    (place k i : ℕ) → place < n → k < M .classes → i < M .methods → inSet table (rowAt place k) i ≡ subclass M k (classOf stated M (methodAt order i) place)
+-- the order has a method at the position, of function f
+unfoldable pub methodOf : Model → List ℕ → ℕ → ℕ → Bool
+methodOf M order f i = ltb i (M .methods) && eqb (M .function (methodAt order i)) f
 
-pub record Tabled (stated : Bool) (M : Model) (order table : List ℕ) : Type 0 where
-  pub told : TabledTo stated M order table places
+-- the order has a method at the position, whose class at a place is above class k
+unfoldable pub methodAbove : Bool → Model → List ℕ → ℕ → ℕ → ℕ → Bool
+methodAbove stated M order place k i = ltb i (M .methods) && classUnder M k (classOf stated M (methodAt order i) place)
+
+-- The sets of the first places: for each class the methods whose class at the place is above it, and none for a number that is no class. What follows is 0.
+pub record TabledTo (stated : Bool) (M : Model) (order table : List ℕ) (n : ℕ) : Type 0 where
+  pub long : length table ≡ tableWords
+  pub told : (place k : ℕ) → place < n → k < maxClasses → SetAt table (rowAt place k) (methodAbove stated M order place k)
+  pub rest : (w : ℕ) → rowAt n 0 ≤ w → getD table w 0 ≡ 0
+
+abbrev pub Tabled : Bool → Model → List ℕ → List ℕ → Type 0
+Tabled stated M order table = TabledTo stated M order table places
 
 -- at each place the methods whose specialiser is above that of m are all methods of the set
 abbrev pub AboveAll : Model → List ℕ → List ℕ → ℕ → ℕ → Type 0

@@ -1,8 +1,10 @@
 // Tables of sets: for each place and class the methods whose class at that place, specialiser or declared, is above it; and the set of a function's methods.
 use crate::sets::TABLE_WORDS;
+use crate::sets::WORD_BITS;
 use crate::sets::WORDS;
-use crate::sets::pack;
+use crate::sets::doubled;
 use crate::sets::row_at;
+use crate::sets::word_end;
 use layout::bundle::Bundle;
 use layout::bytes::byte_at;
 use layout::field::declared;
@@ -10,27 +12,15 @@ use layout::field::function;
 use layout::field::specialiser;
 use subclasses::matrix::under;
 ghost use mathlib.Core.Path.{_≡_};
-ghost use Prim.Native.Nat.{ℕ, _<_, _≤_};
-ghost use lib.Dec.{eqb};
-ghost use lib.ListN.{length, getD};
+ghost use Prim.Native.Nat.{_*_, _<_, _≤_};
+ghost use lib.ListN.{length};
 ghost use Rattle.rules.specs.Layout.{places, maxClasses, maxMethods};
 ghost use Rattle.rules.specs.Model.{modelOf};
-ghost use Rattle.rules.specs.Scratch.{scratchBytes, entryAt};
-ghost use Rattle.rules.specs.Bits.{bit, inSet};
+ghost use Rattle.rules.specs.Scratch.{scratchBytes};
 ghost use Rattle.layout.specs.Opened.{Opened};
 ghost use Rattle.subclasses.specs.Prepared.{Prepared};
 ghost use Rattle.subclasses.specs.Places.{InMatrix};
-ghost use Rattle.method_sets.specs.Sets.{classOf, methodAt, Ordered, Marked, Column, Rows, Tabled};
-
-// A test as a mark.
-fn mark(passes: bool) -> u8
-    ensures { λ r. ⌜ r ≡ bit passes ⌝ }
-{
-    if passes {
-        return 1;
-    }
-    0
-}
+ghost use Rattle.method_sets.specs.Sets.{setWords, tableWords, SetAt, WordOf, classOf, methodOf, columnAbove, Ordered, Column, Rows, TabledTo, Tabled};
 
 // The class of method m at a place: its declared class, or its specialiser.
 fn class_of(bytes: &[u8], b: Bundle, m: usize, place: usize, stated: bool) -> usize
@@ -69,41 +59,21 @@ fn column(
     classes
 }
 
-// Marks the classes of a column that are above class k.
-fn mark_above(scratch: &[u8], k: usize, column: &[u8], marks: &mut [u8])
+// The word of the positions from one on at which a column has a class above class k.
+fn word_above(scratch: &[u8], k: usize, column: &[u8], start: usize) -> u64
     requires { ⌜ scratchBytes ≤ length (now scratch) ⌝ }
     requires { ⌜ k < maxClasses ⌝ }
     requires { ⌜ InMatrix (now column) ⌝ }
-    requires { ⌜ length (now column) ≤ length (now marks) ⌝ }
-    ensures { λ _. ⌜ Marked (λ i. entryAt (now (scratch .entry)) k (getD (now (column .entry)) i 0)) (length (now (column .entry))) (now (marks .entry)) (now (marks .exit)) ⌝ }
+    requires { ⌜ start < maxMethods ⌝ }
+    ensures { λ r. ⌜ WordOf (columnAbove (now (scratch .entry)) (now (column .entry)) k) start r ⌝ }
 {
-    let mut i = 0;
-    while i < column.len() {
-        marks[i] = mark(under(scratch, k, byte_at(column, i)));
-        i += 1;
+    let mut bits = 0;
+    let mut i = word_end(start, column.len());
+    while start < i {
+        i -= 1;
+        bits = doubled(bits, under(scratch, k, byte_at(column, i)));
     }
-}
-
-// Marks the methods of function f.
-fn mark_methods(
-    bytes: &[u8],
-    b: Bundle,
-    order: &[usize; Bundle::METHODS],
-    f: usize,
-    marks: &mut [u8],
-)
-    requires { ⌜ Opened (now bytes) b ⌝ }
-    requires { ⌜ Ordered (modelOf (now bytes)) (now order) ⌝ }
-    requires { ⌜ b .methods ≤ length (now marks) ⌝ }
-    ensures { λ _. ⌜ Marked (λ i. eqb (modelOf (now (bytes .entry)) .function (methodAt (now (order .entry)) i)) f) (b .methods) (now (marks .entry)) (now (marks .exit)) ⌝ }
-{
-    let methods = b.methods;
-    let mut i = 0;
-    while i < methods {
-        let m = order[i] % Bundle::METHODS;
-        marks[i] = mark(function(bytes, b, m) == f);
-        i += 1;
-    }
+    bits
 }
 
 // Writes the sets of one place, class by class.
@@ -118,20 +88,19 @@ fn fill_place(
     requires { ⌜ classes ≤ maxClasses ⌝ }
     requires { ⌜ place < places ⌝ }
     requires { ⌜ InMatrix (now column) ⌝ }
-    requires { ⌜ length (now column) ≤ maxMethods ⌝ }
-    ensures { λ _. ⌜ Rows (now (scratch .entry)) (now (column .entry)) place classes (now (table .entry)) (now (table .exit)) ⌝ }
+    requires { ⌜ length (now table) ≡ tableWords ⌝ }
+    ensures { λ _. ⌜ Rows (now (scratch .entry)) (now (column .entry)) place (setWords * classes) (now (table .entry)) (now (table .exit)) ⌝ }
 {
-    let n = column.len();
-    let mut marks = [0u8; Bundle::METHODS];
-    let mut k = 0;
-    while k < classes {
-        mark_above(scratch, k, column, &mut marks);
-        pack(&marks[..n], table, row_at(place, k));
-        k += 1;
+    let first = row_at(place, 0);
+    let end = WORDS * classes;
+    let mut w = 0;
+    while w < end {
+        table[first + w] = word_above(scratch, w / WORDS, column, WORD_BITS * (w % WORDS));
+        w += 1;
     }
 }
 
-// Writes the sets of all places: by declared classes, or by specialisers.
+// Writes the sets of all places into a table of zeros: by declared classes, or by specialisers.
 pub fn fill_table(
     bytes: &[u8],
     b: Bundle,
@@ -142,6 +111,7 @@ pub fn fill_table(
 )
     requires { ⌜ Prepared (now bytes) b (now scratch) ⌝ }
     requires { ⌜ Ordered (modelOf (now bytes)) (now order) ⌝ }
+    requires { ⌜ TabledTo stated (modelOf (now bytes)) (now order) (now table) 0 ⌝ }
     ensures { λ _. ⌜ Tabled stated (modelOf (now (bytes .entry))) (now (order .entry)) (now (table .exit)) ⌝ }
 {
     let methods = b.methods;
@@ -153,6 +123,23 @@ pub fn fill_table(
     }
 }
 
+// The word of the positions from one on at which the order has a method of function f.
+fn word_of(bytes: &[u8], b: Bundle, order: &[usize; Bundle::METHODS], f: usize, start: usize) -> u64
+    requires { ⌜ Opened (now bytes) b ⌝ }
+    requires { ⌜ Ordered (modelOf (now bytes)) (now order) ⌝ }
+    requires { ⌜ start < maxMethods ⌝ }
+    ensures { λ r. ⌜ WordOf (methodOf (modelOf (now (bytes .entry))) (now (order .entry)) f) start r ⌝ }
+{
+    let mut bits = 0;
+    let mut i = word_end(start, b.methods);
+    while start < i {
+        i -= 1;
+        let m = order[i] % Bundle::METHODS;
+        bits = doubled(bits, function(bytes, b, m) == f);
+    }
+    bits
+}
+
 // The set of function f's methods.
 pub fn methods_of(
     bytes: &[u8],
@@ -162,12 +149,13 @@ pub fn methods_of(
 ) -> [u64; WORDS]
     requires { ⌜ Opened (now bytes) b ⌝ }
     requires { ⌜ Ordered (modelOf (now bytes)) (now order) ⌝ }
-    ensures { λ r. ⌜ ((i : ℕ) → i < b .methods → inSet r 0 i ≡ eqb (modelOf (now (bytes .entry)) .function (methodAt (now (order .entry)) i)) f) ⌝ }
+    ensures { λ r. ⌜ SetAt r 0 (methodOf (modelOf (now (bytes .entry))) (now (order .entry)) f) ⌝ }
 {
-    let methods = b.methods;
-    let mut marks = [0u8; Bundle::METHODS];
-    mark_methods(bytes, b, order, f, &mut marks);
     let mut set = [0u64; WORDS];
-    pack(&marks[..methods], &mut set, 0);
+    let mut w = 0;
+    while w < WORDS {
+        set[w] = word_of(bytes, b, order, f, WORD_BITS * w);
+        w += 1;
+    }
     set
 }

@@ -1,3 +1,2 @@
-// What a call begins with: opening the bundle, and for one that takes scratch the subclass matrix.
-pub mod opening;
-pub mod prepare;
+// What every call that takes scratch begins with.
+pub mod begin;

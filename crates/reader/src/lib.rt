@@ -1,4 +1,6 @@
-// The body reader (M 10.6): it keeps a method's code and a position, and gives the instructions in their order until there are no more.
+// A method's code, and the body reader (M 10.6): it keeps a method's code and a position, and gives the instructions in their order until there are no more.
+pub mod code;
+
 use layout::bytes::byte_at;
 use layout::instruction::Instruction;
 use layout::instruction::decoded;

@@ -1,19 +1,14 @@
--- What parts of the rules say by themselves: a record of a sequence, the parents of class 0 and of others, the body of a method.
+-- What parts of the rules say by themselves: the parents of class 0 and of others, the body of a method.
 -- Assumes nothing.
 use Prim.Native.Nat.{ℕ, _+_, _*_, _/_, _%_, _≤_, _<_}
 use native.Mathlib.Omega.{arith}
 use mathlib.Core.Path.{_≡_, refl}
 use mathlib.Core.Bool.{Bool, true, false, not, Bool·beq}
 use mathlib.Core.List.{List}
-use borrow.Author.Tests.{leb-true, ltb-true, eqb-true}
-use Rattle.rules.specs.Layout.{extent, functionOf, functionCount, bodyOffset, bodyLength, methodCount, methodRule}
-use Rattle.rules.specs.Running.{inSequence}
+use borrow.Author.Tests.{ltb-true, eqb-true}
+use Rattle.rules.specs.Layout.{extent, codeSection, functionOf, functionCount, bodyOffset, bodyLength, methodRule}
 use Rattle.rules.proofs.Lists.{and-left, and-right}
 use Rattle.rules.proofs.Places.{sequence-fits, method-sequence}
-
-pub in-sequence-fits : (start size before n end k : ℕ) → inSequence start size before n end k ≡ true → start + size ≤ end
-unfolding inSequence
-in-sequence-fits start size before n end k e = leb-true (start + size) end (search (and-left, and-right))
 
 pub beq-true : (t : Bool) → Bool·beq true t ≡ t
 beq-true true = refl
@@ -28,8 +23,8 @@ module _ (b : List ℕ) (m : ℕ) (rule : methodRule b m ≡ true) where
   unfolding methodRule
   method-function = ltb-true (functionOf b m) (functionCount b) (search (and-left, and-right) depth 9)
 
-  pub body-fits : bodyOffset b m + bodyLength b m ≤ extent b 5
-  body-fits = sequence-fits (bodyOffset b) (bodyLength b) (methodCount b) (extent b 5) m (method-sequence b m rule)
+  pub body-fits : bodyOffset b m + bodyLength b m ≤ extent b codeSection
+  body-fits = sequence-fits _ _ _ _ _ _ (method-sequence b m rule)
 
   pub body-even : 2 * (bodyLength b m / 2) ≡ bodyLength b m
   unfolding methodRule

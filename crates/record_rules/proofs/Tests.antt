@@ -3,17 +3,17 @@
 use Prim.Native.Nat.{ℕ, zero, suc, _+_, _*_, _-_, _<_, _≤_}
 use native.Mathlib.Omega.{arith}
 use mathlib.Core.Path.{_≡_, refl, sym, subst}
-use mathlib.Core.Bool.{Bool, true, _||_, and-assoc}
+use mathlib.Core.Bool.{Bool, true, _||_}
 use mathlib.Core.List.{List, [], _∷_}
-use lib.Dec.{eqb, ltb, leb·suc-suc}
+use lib.Dec.{eqb, ltb}
 use lib.ListN.{length, getD}
-use borrow.Author.Tests.{lt-ltb, le-ltb, ne-eqb}
+use borrow.Author.Tests.{le-ltb, ne-eqb}
 use Rattle.rules.specs.Bounded.{every}
 use Rattle.rules.specs.Bytes.{part}
-use Rattle.rules.specs.Layout.{tupleRule, risesAbove, rises, everyPair, instructionRule}
+use Rattle.rules.specs.Layout.{tupleRule, placeRule, risesAbove, rises, everyPair, instructionRule}
 use Rattle.rules.proofs.Places.{part-at, part-length}
-use Rattle.rules.proofs.Decides.{Decides, decides-none, decides-next, decides-agree, decides-both, every-decides}
-use Rattle.record_rules.specs.Tests.{from, parentsRule, parentRule, placeRule, pairRule, entryOf, Limits, byLimits}
+use Rattle.rules.proofs.Decides.{Decides, decides-none, decides-next, decides-agree, decides-both, every-decides, tuple-decides}
+use Rattle.record_rules.specs.Tests.{from, parentsRule, parentRule, pairRule, entryOf, Limits, byLimits}
 
 -- a list whose elements are each above the one before
 above-decides : (x : ℕ) (xs : List ℕ) → Decides (risesAbove x xs) (λ i. ltb (getD (x ∷ xs) i 0) (getD xs i 0)) (length xs)
@@ -35,19 +35,6 @@ rises-decides (x ∷ xs) =
     next i l =
         let before : suc i - 1 ≡ i = omega arith in
         rw (ne-eqb (suc i) 0 (λ q. omega arith), before)
-
-pub tuple-decides : (classes n : ℕ) (xs : List ℕ) → Decides (tupleRule classes n xs) (placeRule (λ i. getD xs i 0) classes n) (length xs)
-unfolding tupleRule placeRule every
-tuple-decides classes zero xs =
-    decides-agree (λ i. eqb (getD xs i 0) 0) (placeRule (λ i. getD xs i 0) classes 0) (length xs) (λ i l. rw (le-ltb i 0 (omega arith)))
-    (every-decides (λ c. eqb c 0) xs)
-tuple-decides classes (suc n) [] = decides-none (placeRule (λ i. getD [] i 0) classes (suc n))
-tuple-decides classes (suc n) (x ∷ xs) =
-    rw and-assoc
-    (decides-next (placeRule (λ i. getD (x ∷ xs) i 0) classes (suc n)) (ltb x classes) (tupleRule classes n xs) (length xs)
-    (rw (lt-ltb 0 (suc n) (omega arith)))
-    (decides-agree (placeRule (λ i. getD xs i 0) classes n) (λ i. placeRule (λ i. getD (x ∷ xs) i 0) classes (suc n) (suc i)) (length xs)
-    (λ i l. rw (leb·suc-suc (suc i) n)) (tuple-decides classes n xs)))
 
 pairs-decides : (p : ℕ → ℕ → Bool) (k : ℕ) (xs : List ℕ) → length xs ≡ 2 * k → Decides (everyPair p xs) (pairRule (λ i. getD xs i 0) p) k
 unfolding everyPair
@@ -77,12 +64,11 @@ module _ (b : List ℕ) (at : ℕ) where
       (decides-both (λ i. ltb (getD xs i 0) c) (λ i. eqb i 0 || ltb (getD xs (i - 1) 0) (getD xs i 0)) (length xs)
       (every-decides (λ p. ltb p c) xs) (rises-decides xs)))
 
-  pub tuple-part : (classes k n : ℕ) → at + n ≤ length b → Decides (tupleRule classes k (part b at n)) (placeRule (from b at) classes k) n
-  unfolding placeRule
+  pub tuple-part : (classes k n : ℕ) → at + n ≤ length b → Decides (tupleRule classes k (part b at n)) (λ i. placeRule classes k i (from b at i)) n
   tuple-part classes k n h =
       let xs = part b at n in
-      decides-agree (placeRule (λ i. getD xs i 0) classes k) (placeRule (from b at) classes k) n (λ i l. rw (part-at b at n i l))
-      (subst (Decides (tupleRule classes k xs) (placeRule (λ i. getD xs i 0) classes k)) (part-length b at n h) (tuple-decides classes k xs))
+      decides-agree (λ i. placeRule classes k i (getD xs i 0)) (λ i. placeRule classes k i (from b at i)) n (λ i l. rw (part-at b at n i l))
+      (subst (Decides (tupleRule classes k xs) (λ i. placeRule classes k i (getD xs i 0))) (part-length b at n h) (tuple-decides classes k xs))
 
   pub pairs-part : (p : ℕ → ℕ → Bool) (k : ℕ) → at + 2 * k ≤ length b → Decides (everyPair p (part b at (2 * k))) (pairRule (from b at) p) k
   pairs-part p k h =

@@ -22,10 +22,6 @@ parentsRule c xs = every (λ p. ltb p c) xs && rises xs
 unfoldable pub parentRule : (ℕ → ℕ) → ℕ → ℕ → Bool
 parentRule f c i = ltb (f i) c && (eqb i 0 || ltb (f (i - 1)) (f i))
 
--- `tupleRule` of place i: it names a class, or is unused and 0
-unfoldable pub placeRule : (ℕ → ℕ) → ℕ → ℕ → ℕ → Bool
-placeRule f classes n i = cond (ltb i n) (ltb (f i) classes) (eqb (f i) 0)
-
 -- what `methodRule` says of the body alone
 abbrev pub bodyRule : List ℕ → ℕ → Bool
 bodyRule b m =

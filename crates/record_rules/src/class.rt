@@ -4,8 +4,8 @@ use layout::bundle::Bundle;
 use layout::bytes::byte_at;
 use layout::record::filler;
 use layout::record::kind;
-use layout::record::list_length;
 use layout::record::list_offset;
+use layout::record::parent_count;
 ghost use mathlib.Core.Path.{_≡_};
 ghost use mathlib.Core.Bool.{not};
 ghost use Prim.Native.Nat.{_+_, _<_, _≤_};
@@ -60,7 +60,7 @@ pub fn class_breaks(bytes: &[u8], b: Bundle, c: usize, before: usize) -> bool
         return true;
     }
     let start = list_offset(bytes, b, c);
-    let size = list_length(bytes, b, c);
+    let size = parent_count(bytes, b, c);
     if misplaced(start, size, before, b.parent_len, b.classes, c) {
         return true;
     }

@@ -1,10 +1,10 @@
 // The rule of a body's instructions.
 use layout::bundle::Bundle;
 use layout::bytes::byte_at;
-use layout::record::argument_count;
+use layout::record::arity;
 use layout::record::body_length;
 use layout::record::body_offset;
-use layout::record::method_function;
+use layout::record::function;
 ghost use mathlib.Core.Path.{_≡_};
 ghost use mathlib.Core.Bool.{not, true};
 ghost use Prim.Native.Nat.{_+_, _*_, _<_, _≤_};
@@ -69,7 +69,7 @@ pub fn code_breaks(bytes: &[u8], b: Bundle, m: usize) -> bool
     requires { ⌜ methodRule (now bytes) m ≡ true ⌝ }
     ensures { λ r. ⌜ r ≡ not (codeRule (now (bytes .entry)) m) ⌝ }
 {
-    let n = argument_count(bytes, b, method_function(bytes, b, m));
+    let n = arity(bytes, b, function(bytes, b, m));
     let start = body_offset(bytes, b, m);
     let size = body_length(bytes, b, m);
     let limits = [n, b.classes, b.functions, 0];

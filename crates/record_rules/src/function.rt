@@ -1,6 +1,6 @@
 // The rule of a function record.
 use layout::bundle::Bundle;
-use layout::record::argument_count;
+use layout::record::arity;
 ghost use mathlib.Core.Path.{_≡_};
 ghost use mathlib.Core.Bool.{not};
 ghost use Prim.Native.Nat.{_<_};
@@ -13,5 +13,5 @@ pub fn function_breaks(bytes: &[u8], b: Bundle, f: usize) -> bool
     requires { ⌜ f < b .functions ⌝ }
     ensures { λ r. ⌜ r ≡ not (functionRule (now (bytes .entry)) f) ⌝ }
 {
-    Bundle::PLACES < argument_count(bytes, b, f)
+    Bundle::PLACES < arity(bytes, b, f)
 }

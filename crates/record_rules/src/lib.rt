@@ -5,4 +5,4 @@ pub mod function;
 pub mod method;
 mod sequence;
 pub mod signature;
-mod tuple;
+pub mod tuple;

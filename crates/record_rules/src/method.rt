@@ -2,12 +2,13 @@
 use crate::sequence::misplaced;
 use crate::tuple::tuple_breaks;
 use layout::bundle::Bundle;
-use layout::record::argument_count;
+use layout::record::arity;
 use layout::record::body_length;
 use layout::record::body_offset;
-use layout::record::method_function;
-use layout::record::method_record;
-use layout::record::method_result;
+use layout::record::declared_tuple_at;
+use layout::record::function;
+use layout::record::result;
+use layout::record::specialiser_tuple_at;
 ghost use mathlib.Core.Path.{_≡_};
 ghost use mathlib.Core.Bool.{not};
 ghost use Prim.Native.Nat.{_<_};
@@ -44,19 +45,18 @@ pub fn method_breaks(bytes: &[u8], b: Bundle, m: usize, before: usize) -> bool
     requires { ⌜ before ≡ sum (bodyLength (now bytes)) m ⌝ }
     ensures { λ r. ⌜ r ≡ not (methodRule (now (bytes .entry)) m) ⌝ }
 {
-    let f = method_function(bytes, b, m);
+    let f = function(bytes, b, m);
     if b.functions <= f {
         return true;
     }
-    let n = argument_count(bytes, b, f);
-    let at = method_record(bytes, b, m);
-    if tuple_breaks(bytes, at + 1, n, b.classes) {
+    let n = arity(bytes, b, f);
+    if tuple_breaks(bytes, specialiser_tuple_at(bytes, b, m), n, b.classes) {
         return true;
     }
-    if tuple_breaks(bytes, at + Bundle::METHOD_DECLARED, n, b.classes) {
+    if tuple_breaks(bytes, declared_tuple_at(bytes, b, m), n, b.classes) {
         return true;
     }
-    if b.classes <= method_result(bytes, b, m) {
+    if b.classes <= result(bytes, b, m) {
         return true;
     }
     body_breaks(bytes, b, m, before)

@@ -2,7 +2,7 @@
 ghost use mathlib.Core.Path.{_≡_};
 ghost use mathlib.Core.Bool.{not};
 ghost use Prim.Native.Nat.{_<_};
-ghost use Rattle.rules.specs.Running.{inSequence};
+ghost use Rattle.rules.specs.Layout.{inSequence};
 
 // Whether record k of n has its list or body out of place: it begins where those before it end, lies within the section, and the last ends it.
 pub(crate) fn misplaced(

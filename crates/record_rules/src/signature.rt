@@ -1,10 +1,10 @@
 // The rule of a signature record.
 use crate::tuple::tuple_breaks;
 use layout::bundle::Bundle;
-use layout::record::argument_count;
-use layout::record::signature_function;
-use layout::record::signature_record;
-use layout::record::signature_result;
+use layout::record::arity;
+use layout::record::sig_function;
+use layout::record::sig_result;
+use layout::record::sig_tuple_at;
 ghost use mathlib.Core.Path.{_≡_};
 ghost use mathlib.Core.Bool.{not};
 ghost use Prim.Native.Nat.{_<_};
@@ -17,13 +17,13 @@ pub fn signature_breaks(bytes: &[u8], b: Bundle, s: usize) -> bool
     requires { ⌜ s < b .signatures ⌝ }
     ensures { λ r. ⌜ r ≡ not (signatureRule (now (bytes .entry)) s) ⌝ }
 {
-    let f = signature_function(bytes, b, s);
+    let f = sig_function(bytes, b, s);
     if b.functions <= f {
         return true;
     }
-    let n = argument_count(bytes, b, f);
-    if tuple_breaks(bytes, signature_record(bytes, b, s) + 1, n, b.classes) {
+    let n = arity(bytes, b, f);
+    if tuple_breaks(bytes, sig_tuple_at(bytes, b, s), n, b.classes) {
         return true;
     }
-    b.classes <= signature_result(bytes, b, s)
+    b.classes <= sig_result(bytes, b, s)
 }

@@ -3,22 +3,19 @@ use layout::bundle::Bundle;
 use layout::bytes::byte_at;
 ghost use mathlib.Core.Path.{_≡_};
 ghost use mathlib.Core.Bool.{not};
-ghost use Prim.Native.Nat.{_+_, _<_, _≤_};
+ghost use Prim.Native.Nat.{_+_, _≤_};
 ghost use lib.ListN.{length};
 ghost use Rattle.rules.specs.Bytes.{part};
-ghost use Rattle.rules.specs.Layout.{places, tupleRule};
-ghost use Rattle.record_rules.specs.Tests.{from, placeRule};
+ghost use Rattle.rules.specs.Layout.{places, placeRule, tupleRule};
 
-// Whether place i, of which the first n are used, breaks the rule.
-fn place_breaks(bytes: &[u8], at: usize, n: usize, classes: usize, i: usize) -> bool
-    requires { ⌜ at + i < length (now bytes) ⌝ }
-    ensures { λ r. ⌜ r ≡ not (placeRule (from (now (bytes .entry)) at) classes n i) ⌝ }
+// Whether a number keeps the rule of place i: it is a class where the place is used, one of the first n, and 0 elsewhere.
+pub fn fits(classes: usize, n: usize, i: usize, x: usize) -> bool
+    ensures { λ r. ⌜ r ≡ placeRule classes n i x ⌝ }
 {
-    let x = byte_at(bytes, at + i);
     if i < n {
-        return classes <= x;
+        return x < classes;
     }
-    x != 0
+    x == 0
 }
 
 // Whether one of the places from byte `at` on breaks the rule.
@@ -28,7 +25,7 @@ pub(crate) fn tuple_breaks(bytes: &[u8], at: usize, n: usize, classes: usize) ->
 {
     let mut i = 0;
     while i < Bundle::PLACES {
-        if place_breaks(bytes, at, n, classes, i) {
+        if !fits(classes, n, i, byte_at(bytes, at + i)) {
             return true;
         }
         i += 1;

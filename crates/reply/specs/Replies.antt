@@ -3,16 +3,14 @@
 use Prim.Native.Nat.{ℕ}
 use mathlib.Core.List.{List, [], _∷_, _++_}
 use lib.ListN.{take, replicate, set}
+use Rattle.rules.specs.Numbers as numbers
 use Rattle.rules.specs.Layout.{Answer, gives, refuses}
 use Rattle.rules.specs.Machine.{Ending, value, spent, deep, stopped, Outcome}
 use Rattle.rules.specs.Bits.{bit}
 use Rattle.rules.specs.Subclass.{Ancestry, same, heir, neither}
 use Rattle.rules.specs.Calls.{Match}
 use Rattle.rules.specs.Rough.{Rough, one, mayFail, several}
-use Rattle.calls.specs.declared.check.Verdict.the-variants as verdict
-use Rattle.calls.specs.Said.{refusalSaid, verdictSaid}
-use Rattle.sound_runs.specs.declared.run_accepted.AcceptedRun as accepted-type
-use Rattle.sound_runs.specs.declared.run_accepted.AcceptedRun.the-variants.{Value, Spent, Deep, NotAccepted, NotCovered, Refused}
+use Rattle.rules.specs.Accepted.{Accepted, ended, notAccepted, notCovered}
 use Rattle.reply.specs.declared.Reply.{Reply}
 
 -- the values that there are, then zeros, eight in all
@@ -74,11 +72,10 @@ abbrev pub runReply : Answer Outcome → Reply
 runReply (gives o) = outcomeReply o
 runReply (refuses number values) = numbered number values
 
--- The run of an accepted bundle. A send that no signature covers is 18 with the value 1, to tell it from a call that is wrong.
-abbrev pub acceptedReply : accepted-type.AcceptedRun → Reply
-acceptedReply (Value c steps) = withSteps (endingReply (value c)) steps
-acceptedReply (Spent steps) = withSteps (endingReply spent) steps
-acceptedReply (Deep steps) = withSteps (endingReply deep) steps
-acceptedReply (NotAccepted found) = reply nothing (verdictSaid (verdict.Refused found))
-acceptedReply NotCovered = numbered 18 (1 ∷ [])
-acceptedReply (Refused r) = reply {A = Unit {0}} nothing (refusalSaid r)
+-- The run of an accepted bundle. A check that does not accept has its own number and values; a send that no signature covers is 18 with the value 1, to tell
+-- it from a call that is wrong.
+abbrev pub acceptedReply : Answer Accepted → Reply
+acceptedReply (gives (ended o)) = outcomeReply o
+acceptedReply (gives (notAccepted number values)) = numbered number values
+acceptedReply (gives notCovered) = numbered numbers.absent (1 ∷ [])
+acceptedReply (refuses number values) = numbered number values

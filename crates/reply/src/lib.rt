@@ -1,32 +1,42 @@
 // An answer as a number and eight values, for callers that have none of the enums: C, and programs that compare answers.
-use bundle_rules::finding::LayoutFinding;
-use bundle_rules::finding::Opening;
-use calls::ancestry::AncestryAnswer;
-use calls::check::BodyFinding;
-use calls::check::Finding;
-use calls::check::Verdict;
-use calls::lookup::LookupAnswer;
-use calls::refusal::Refusal;
-use calls::run::RunAnswer;
-use calls::send_type::SendTypeAnswer;
-use calls::witness::CoverageFinding;
-use calls::witness::WitnessAnswer;
+use answers::failure::Failure;
+use answers::finding::CoverageFinding;
+use answers::finding::Finding;
+use answers::finding::Verdict;
+use answers::number::ABSENT;
+use answers::number::NO_CONCRETE;
+use answers::number::NO_LICENCE;
+use answers::number::NO_LINE;
+use answers::number::NOT_BINARY;
+use answers::number::SHORT_LINE;
+use answers::number::SHORT_SCRATCH;
+use answers::opening::LayoutFinding;
+use answers::opening::Opening;
+use answers::refusal::Refusal;
+use answers::send::Send;
 use chart_line::line::ChartAnswer;
 use machine::ending::Ending;
 use machine::run::Outcome;
-use preparation::opening::number;
-use preparation::opening::record;
-use sound_runs::run_accepted::AcceptedRun;
-use subclasses::send::Send;
+use questions::ancestry::AncestryAnswer;
+use questions::lookup::LookupAnswer;
+use questions::send_type::SendTypeAnswer;
+use runs::run::RunAnswer;
+use sound_runs::accepted::AcceptedRun;
 use upper_classes::answer::RoughAnswer;
+use verdicts::witness::WitnessAnswer;
 ghost use mathlib.Core.Path.{_≡_};
 ghost use mathlib.Core.List.{[], _∷_, _++_};
-ghost use Rattle.bundle_rules.specs.Opening.{said, saidOf};
-ghost use Rattle.subclasses.specs.Send.{sendValues};
+ghost use Rattle.answers.specs.Opening.{layoutNumber, layoutValues, said};
+ghost use Rattle.answers.specs.Send.{sendValues};
+ghost use Rattle.answers.specs.Failures.{failureNumber, failureMethods};
+ghost use Rattle.answers.specs.Refusals.{refusalNumber, refusalValues};
+ghost use Rattle.answers.specs.Findings.{coverageSaid, findingNumber, findingValues, verdictSaid};
 ghost use Rattle.machine.specs.Endings.{endingOf};
 ghost use Rattle.machine.specs.Outcome.{outcomeOf};
-ghost use Rattle.calls.specs.Answers.{numberOf, valuesOf};
-ghost use Rattle.calls.specs.Said.{refusalSaid, ancestrySaid, lookupSaid, sendTypeSaid, coverageSaid, witnessSaid, runSaid, verdictSaid};
+ghost use Rattle.questions.specs.Said.{ancestrySaid, lookupSaid, sendTypeSaid};
+ghost use Rattle.verdicts.specs.Said.{witnessSaid};
+ghost use Rattle.runs.specs.Said.{runSaid};
+ghost use Rattle.sound_runs.specs.Accepted.{acceptedSaid};
 ghost use Rattle.chart_line.specs.Charted.{chartSaid};
 ghost use Rattle.upper_classes.specs.Answered.{roughSaid};
 ghost use Rattle.reply.specs.Replies.{numbered, reply, nothing, counts, ancestryValues, matchValues, lineLength, roughValues, endingReply, withSteps, outcomeReply, runReply, acceptedReply};
@@ -50,21 +60,16 @@ impl Reply {
 
     // 1 to 9, from 4 on with the record.
     fn of_layout(found: LayoutFinding) -> Reply
-        ensures { λ r. ⌜ r ≡ numbered (numberOf (saidOf found)) (valuesOf (saidOf found)) ⌝ }
+        ensures { λ r. ⌜ r ≡ numbered (layoutNumber found) (layoutValues found) ⌝ }
     {
-        Reply::pair(number(found), record(found), 0)
+        Reply::pair(found.number(), found.record(), 0)
     }
 
     // 1 to 9, 18, 19 and 20.
     pub fn of_refusal(refusal: Refusal) -> Reply
-        ensures { λ r. ⌜ r ≡ reply {A = Unit {0}} nothing (refusalSaid refusal) ⌝ }
+        ensures { λ r. ⌜ r ≡ numbered (refusalNumber refusal) (refusalValues refusal) ⌝ }
     {
-        match refusal {
-            Refusal::Layout(found) => Reply::of_layout(found),
-            Refusal::Scratch => Reply::pair(19, 0, 0),
-            Refusal::Row => Reply::pair(20, 0, 0),
-            Refusal::Absent => Reply::pair(18, 0, 0),
-        }
+        Reply::pair(refusal.number(), refusal.record(), 0)
     }
 
     pub fn of_opening(opening: Opening) -> Reply
@@ -90,11 +95,14 @@ impl Reply {
         }
     }
 
-    // A send that is named, with two methods, one or none.
-    fn of_send(number: u8, send: Send, m: usize, n: usize) -> Reply
-        ensures { λ r. ⌜ r ≡ numbered number (sendValues send ++ m ∷ n ∷ []) ⌝ }
+    // A send that fails.
+    fn of_send(send: Send, failure: Failure) -> Reply
+        ensures { λ r. ⌜ r ≡ numbered (failureNumber failure) (sendValues send ++ failureMethods failure) ⌝ }
     {
         let tuple = send.tuple;
+        let number = failure.number();
+        let m = failure.first();
+        let n = failure.second();
         Reply {
             number,
             values: [send.function, tuple.a0, tuple.a1, tuple.a2, m, n, 0, 0],
@@ -106,8 +114,7 @@ impl Reply {
     {
         match answer {
             LookupAnswer::Method(m, exact) => Reply::pair(0, m, exact as usize),
-            LookupAnswer::Missing(send) => Reply::of_send(10, send, 0, 0),
-            LookupAnswer::Ambiguous(send, m, n) => Reply::of_send(11, send, m, n),
+            LookupAnswer::Fails(send, failed) => Reply::of_send(send, Failure::Lookup(failed)),
             LookupAnswer::Refused(refusal) => Reply::of_refusal(refusal),
         }
     }
@@ -117,7 +124,7 @@ impl Reply {
     {
         match answer {
             SendTypeAnswer::Typed => Reply::pair(0, 0, 0),
-            SendTypeAnswer::Unlicensed => Reply::pair(16, 0, 0),
+            SendTypeAnswer::Unlicensed => Reply::pair(NO_LICENCE, 0, 0),
             SendTypeAnswer::Refused(refusal) => Reply::of_refusal(refusal),
         }
     }
@@ -128,9 +135,9 @@ impl Reply {
         match answer {
             ChartAnswer::Written(n) => Reply::pair(0, n, 0),
             ChartAnswer::Refused(refusal) => Reply::of_refusal(refusal),
-            ChartAnswer::NotBinary => Reply::pair(21, 0, 0),
-            ChartAnswer::NoLine => Reply::pair(22, 0, 0),
-            ChartAnswer::Short => Reply::pair(23, 0, 0),
+            ChartAnswer::NotBinary => Reply::pair(NOT_BINARY, 0, 0),
+            ChartAnswer::NoLine => Reply::pair(NO_LINE, 0, 0),
+            ChartAnswer::Short => Reply::pair(SHORT_LINE, 0, 0),
         }
     }
 
@@ -142,20 +149,25 @@ impl Reply {
             RoughAnswer::One(m) => Reply::pair(0, 0, m),
             RoughAnswer::MayFail => Reply::pair(0, 1, 0),
             RoughAnswer::Several => Reply::pair(0, 2, 0),
-            RoughAnswer::NoConcrete => Reply::pair(24, 0, 0),
+            RoughAnswer::NoConcrete => Reply::pair(NO_CONCRETE, 0, 0),
             RoughAnswer::Refused(refusal) => Reply::of_refusal(refusal),
         }
     }
 
-    // A broken tuple: the signature, its send, and two methods, one or none.
-    fn of_tuple(number: u8, signature: usize, send: Send, m: usize, n: usize) -> Reply
-        ensures { λ r. ⌜ r ≡ numbered number (signature ∷ sendValues send ++ m ∷ n ∷ []) ⌝ }
+    // A broken tuple: the signature, its send, and the methods.
+    fn of_coverage(found: CoverageFinding) -> Reply
+        ensures { λ r. ⌜ r ≡ reply nothing (coverageSaid found) ⌝ }
     {
+        let send = found.send;
         let tuple = send.tuple;
+        let failure = found.failure;
+        let number = failure.number();
+        let m = failure.first();
+        let n = failure.second();
         Reply {
             number,
             values: [
-                signature,
+                found.signature,
                 send.function,
                 tuple.a0,
                 tuple.a1,
@@ -164,17 +176,6 @@ impl Reply {
                 n,
                 0,
             ],
-        }
-    }
-
-    fn of_coverage(found: CoverageFinding) -> Reply
-        ensures { λ r. ⌜ r ≡ reply nothing (coverageSaid found) ⌝ }
-    {
-        match found {
-            CoverageFinding::Missing(s, send) => Reply::of_tuple(10, s, send, 0, 0),
-            CoverageFinding::Ambiguous(s, send, m, n) => Reply::of_tuple(11, s, send, m, n),
-            CoverageFinding::Declared(s, send, m) => Reply::of_tuple(12, s, send, m, 0),
-            CoverageFinding::Result(s, send, m) => Reply::of_tuple(13, s, send, m, 0),
         }
     }
 
@@ -188,20 +189,16 @@ impl Reply {
         }
     }
 
-    fn of_body(found: BodyFinding) -> Reply
-        ensures { λ r. ⌜ r ≡ numbered (found .number) (found .method ∷ found .instruction ∷ []) ⌝ }
-    {
-        Reply::pair(found.number, found.method, found.instruction)
-    }
-
     fn of_finding(found: Finding) -> Reply
-        ensures { λ r. ⌜ r ≡ reply nothing (verdictSaid (Verdict.Refused found)) ⌝ }
+        ensures { λ r. ⌜ r ≡ numbered (findingNumber found) (findingValues found) ⌝ }
     {
         match found {
             Finding::Layout(broken) => Reply::of_layout(broken),
-            Finding::Scratch => Reply::pair(19, 0, 0),
+            Finding::Scratch => Reply::pair(SHORT_SCRATCH, 0, 0),
             Finding::Coverage(broken) => Reply::of_coverage(broken),
-            Finding::Body(broken) => Reply::of_body(broken),
+            Finding::Body(broken) => {
+                Reply::pair(broken.number, broken.method, broken.instruction)
+            },
         }
     }
 
@@ -222,11 +219,8 @@ impl Reply {
             Ending::Value(c) => Reply::pair(0, 0, c),
             Ending::Spent => Reply::pair(0, 1, 0),
             Ending::Deep => Reply::pair(0, 2, 0),
-            Ending::Missing(send) => Reply::of_send(10, send, 0, 0),
-            Ending::Ambiguous(send, m, n) => Reply::of_send(11, send, m, n),
-            Ending::Declared(send, m) => Reply::of_send(12, send, m, 0),
-            Ending::Values(m, at) => Reply::pair(14, m, at),
-            Ending::Abstract(m, at) => Reply::pair(15, m, at),
+            Ending::Fails(send, failure) => Reply::of_send(send, failure),
+            Ending::Stopped(number, m, at) => Reply::pair(number, m, at),
         }
     }
 
@@ -259,14 +253,14 @@ impl Reply {
     }
 
     pub fn of_accepted(answer: AcceptedRun) -> Reply
-        ensures { λ r. ⌜ r ≡ acceptedReply answer ⌝ }
+        ensures { λ r. ⌜ r ≡ acceptedReply (acceptedSaid answer) ⌝ }
     {
         match answer {
             AcceptedRun::Value(c, steps) => Reply::pair(0, 0, c).with_steps(steps),
             AcceptedRun::Spent(steps) => Reply::pair(0, 1, 0).with_steps(steps),
             AcceptedRun::Deep(steps) => Reply::pair(0, 2, 0).with_steps(steps),
             AcceptedRun::NotAccepted(found) => Reply::of_finding(found),
-            AcceptedRun::NotCovered => Reply::pair(18, 1, 0),
+            AcceptedRun::NotCovered => Reply::pair(ABSENT, 1, 0),
             AcceptedRun::Refused(refusal) => Reply::of_refusal(refusal),
         }
     }

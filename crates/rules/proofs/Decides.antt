@@ -4,12 +4,13 @@ use Prim.Native.Nat.{ℕ, zero, suc, _<_}
 use native.Mathlib.Nat.{not-suc-le-zero, le-of-suc-le-suc}
 use native.Mathlib.Omega.{arith}
 use mathlib.Core.Path.{_≡_, refl, sym, ap, _∙_}
-use mathlib.Core.Bool.{Bool, true, false, not, _&&_, true≢false, Bool·not-not, and-false}
+use mathlib.Core.Bool.{Bool, true, false, not, _&&_, true≢false, Bool·not-not, and-false, and-assoc}
 use mathlib.Core.List.{List, [], _∷_}
-use lib.Dec.{ltb, leb}
+use lib.Dec.{eqb, ltb, leb, leb·suc-suc}
 use lib.ListN.{length, getD}
-use borrow.Author.Tests.{le-leb, lt-leb, ltb-true, ltb-false, not-true, not-false}
+use borrow.Author.Tests.{le-leb, lt-leb, lt-ltb, le-ltb, ltb-true, ltb-false, not-true, not-false}
 use Rattle.rules.specs.Bounded.{upto, every}
+use Rattle.rules.specs.Layout.{tupleRule, placeRule}
 use Rattle.rules.proofs.Lists.{and-left, and-right, and-both, every-from, every-mem, upto-below, below-upto}
 
 -- what cannot be true is false
@@ -88,3 +89,17 @@ pub every-decides : (p : ℕ → Bool) (xs : List ℕ) → Decides (every p xs) 
 unfolding every
 every-decides p [] = decides-none (λ i. p (getD [] i 0))
 every-decides p (x ∷ xs) = decides-next (λ i. p (getD (x ∷ xs) i 0)) (p x) (every p xs) (length xs) refl (every-decides p xs)
+
+-- a tuple keeps its rule exactly when each of its places does
+pub tuple-decides : (classes n : ℕ) (xs : List ℕ) → Decides (tupleRule classes n xs) (λ i. placeRule classes n i (getD xs i 0)) (length xs)
+unfolding tupleRule placeRule every
+tuple-decides classes zero xs =
+    decides-agree (λ i. eqb (getD xs i 0) 0) (λ i. placeRule classes 0 i (getD xs i 0)) (length xs) (λ i l. rw (le-ltb i 0 (omega arith)))
+    (every-decides (λ c. eqb c 0) xs)
+tuple-decides classes (suc n) [] = decides-none (λ i. placeRule classes (suc n) i 0)
+tuple-decides classes (suc n) (x ∷ xs) =
+    rw and-assoc
+    (decides-next (λ i. placeRule classes (suc n) i (getD (x ∷ xs) i 0)) (ltb x classes) (tupleRule classes n xs) (length xs)
+    (rw (lt-ltb 0 (suc n) (omega arith)))
+    (decides-agree (λ i. placeRule classes n i (getD xs i 0)) (λ i. placeRule classes (suc n) (suc i) (getD xs i 0)) (length xs)
+    (λ i l. rw (leb·suc-suc (suc i) n)) (tuple-decides classes n xs)))

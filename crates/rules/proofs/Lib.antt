@@ -12,11 +12,13 @@ pub mod Coverage
 pub mod First
 pub mod Alike
 pub mod Types
+pub mod Runs
 pub mod Machine
 pub mod Calls
 pub mod Named
 pub mod Exact
 pub mod Sound
+pub mod Accepted
 pub mod Overwrite
 pub mod Bits
 pub mod Scratch

@@ -18,7 +18,7 @@ use Rattle.rules.specs.Bounded.{upto, first, matching}
 use Rattle.rules.specs.Model.{Model, Wellformed}
 use Rattle.rules.specs.Subclass.{subclass, under}
 use Rattle.rules.specs.Lookup.{Found, found, missing, ambiguous, applies, applicable, left, asSpecific, leads, unbeaten, rivals, leaderOr, select, lookup}
-use Rattle.rules.proofs.Lists.{test, and-left, and-right, and-both, getD-mem, mem-length, keep-mem, keep-in, matching-length, matching-snoc, first-none, none-first, upto-below, below-upto, Rising, Falling, rising-upto, ordered-keep, ordered-reverse}
+use Rattle.rules.proofs.Lists.{test, and-left, and-right, and-both, getD-mem, mem-length, keep-mem, keep-in, matching-snoc, first-none, none-first, upto-below, below-upto, Rising, Falling, rising-upto, ordered-keep, ordered-reverse}
 use Rattle.rules.proofs.Selection.{MethodOf, leads-all, all-leads, unbeaten-alone, alone-unbeaten, select-found, select-missing, select-ambiguous, none-selected, rivals-mem, rivals-in, specific-antisym, two-rivals}
 
 -- an applicable method of a function
@@ -234,14 +234,6 @@ module _ (M : Model) (w : Wellformed M) (f : ℕ) (args : List ℕ) where
       go (found n) e = e ∙ ap (λ (k : ℕ). found k) (leader-unique n m (lookup-leader M f args n e) l)
       go missing e = absurd (lookup-missing M f args .0 e m (l .candidate))
       go (ambiguous a b) e = absurd (lookup-ambiguous M f args .0 (a, b, e) .1 m l)
-
--- what a method applies to has as many classes as its function has places
-pub candidate-places : (M : Model) → Wellformed M → (f : ℕ) (args : List ℕ) (m : ℕ) → Candidate M f args m → length args ≡ M .arity f
-unfolding applies under
-candidate-places M w f args m c =
-    matching-length (subclass M) args (M .specialisers m) (c .applying)
-    ∙ w .specialiser-places m (c .bound)
-    ∙ ap (M .arity) (c .ofFunction)
 
 -- Narrowing. With no place filled every method of the function is left; each place filled leaves those whose specialiser there is above the class; with all
 -- places filled those are left that apply.

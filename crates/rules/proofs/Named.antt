@@ -4,19 +4,17 @@
 use Prim.Native.Nat.{ℕ}
 use native.Mathlib.Omega.{arith}
 use mathlib.Core.Path.{_≡_, refl, ap, _∙_}
-use mathlib.Core.Bool.{Bool, true, false, cond, _&&_, false≢true}
-use mathlib.Core.Logic.{_⊎_, inl, inr}
+use mathlib.Core.Bool.{Bool, true, false, cond, false≢true}
 use mathlib.Core.List.{List, [], _∷_, _++_}
 use mathlib.Core.Option.{Option, none, some}
-use Rattle.rules.specs.Bounded.{every}
 use Rattle.rules.specs.Layout.{gives, refuses, padded}
 use Rattle.rules.specs.Model.{Model, modelOf, Wellformed}
 use Rattle.rules.specs.Subclass.{subclass}
 use Rattle.rules.specs.Lookup.{Found, found, missing, ambiguous, lookup}
 use Rattle.rules.specs.Types.{Typing, typed, breaks, typeBody}
-use Rattle.rules.specs.Coverage.{declaredHold, concreteClass, Judgement, holds, fails, judgeFound, judge, brokenTuple, brokenSignature, brokenMethod, coverageRefusal, bodyRefusal, bodyVerdict, tupleVerdict, coverageVerdict, verdict}
-use Rattle.rules.specs.Machine.{Ending, spent, stopped, enters, stops, stoppedAt, targetFound, target, Outcome, run}
-use Rattle.rules.specs.Calls.{sendRule, used, foundAnswer, lookupIn, lookupCall, checkCall, witnessRule, witnessAnswer, witnessIn, witnessCall, runIn, runCall}
+use Rattle.rules.specs.Coverage.{declaredHold, Judgement, holds, fails, judgeFound, judge, brokenTuple, brokenSignature, brokenMethod, coverageRefusal, bodyRefusal, bodyVerdict, tupleVerdict, coverageVerdict, verdict}
+use Rattle.rules.specs.Machine.{Ending, stopped, enters, stops, stoppedAt, targetFound, target, Outcome, run}
+use Rattle.rules.specs.Calls.{sendRule, used, foundAnswer, lookupIn, lookupCall, checkCall, witnessRule, witnessAnswer, witnessIn, witnessCall, runRule, runIn, runCall}
 use Rattle.rules.proofs.Opening.{require-passed}
 use Rattle.rules.proofs.Lookup.{NewestRivals, lookup-rivals}
 use Rattle.rules.proofs.Types.{body-number}
@@ -96,11 +94,7 @@ module _ (M : Model) (w : Wellformed M) where
       }
 
   pub run-named : (f : ℕ) (args : List ℕ) (count : ℕ) → StopsAmbiguous ((run M f args count) .outcome .ending)
-  run-named f args count vs e = go (run-ends M StopsAmbiguous stops-ambiguous f args count)
-    where
-      go : ((run M f args count) .outcome .ending ≡ spent) ⊎ StopsAmbiguous ((run M f args count) .outcome .ending) → NamesSend M vs
-      go (inl q) = absurd (false≢true (cc))
-      go (inr h) = h vs e
+  run-named f args count = run-ends M StopsAmbiguous stops-ambiguous (λ vs e. absurd (false≢true (cc))) f args count
 
   -- so does a tuple that is refused under a signature
   refusal-named : (s : ℕ) (args vs : List ℕ) (j : Judgement) → judge M s args ≡ j → coverageRefusal M s args j ≡ refuses 11 vs
@@ -167,6 +161,6 @@ unfolding runCall runIn
 run-call-named b scratch f tuple count r vs e h =
     let (w, q) = called-gives b scratch (runIn f tuple count) r e in
     let M = modelOf b in
-    let (_, same) = require-passed (sendRule M f tuple && every (concreteClass M) (used M f tuple)) 18 _ q in
+    let (_, same) = require-passed (runRule M f tuple) 18 _ q in
     let outcome : (run M f (used M f tuple) count) .outcome ≡ r = cc (same) in
     run-named M w f (used M f tuple) count vs (ap (λ (o : Outcome). o .ending) outcome ∙ h)

@@ -11,26 +11,26 @@ use lib.Seq.{length-take-le, getD-take, getD-drop}
 use borrow.Author.Tests.{leb-true, eqb-true}
 use Rattle.rules.specs.Bounded.{sum, every}
 use Rattle.rules.specs.Bytes.{byte, part}
-use Rattle.rules.specs.Layout.{offset, extent, sequenceRule, tupleRule, classAt, listOffset, listLength, parentsOf, classRule, signatureAt, sigTupleOf, methodAt, specialiserTupleOf, declaredTupleOf, bodyOffset, bodyLength, codeOf, methodRule, classCount, functionCount, signatureCount, methodCount, functionSection, places, classBytes, signatureBytes, methodBytes}
+use Rattle.rules.specs.Layout.{offset, extent, inSequence, sequenceRule, tupleRule, listOffset, listLength, parentsOf, classRule, signatureAt, sigTupleAt, sigTupleOf, methodAt, specialiserTupleAt, declaredTupleAt, specialiserTupleOf, declaredTupleOf, bodyOffset, bodyLength, codeOf, methodRule, classCount, signatureCount, methodCount, parentSection, functionSection, methodSection, codeSection, places, signatureBytes, methodBytes}
 use Rattle.rules.specs.Model.{Instr, decode, instructions}
 use Rattle.rules.proofs.Lists.{and-left, and-right}
 use Rattle.rules.proofs.Opening.{Rules, Sections, sections}
 
 -- what a record of a sequence says of its own list
-module _ (start size : ℕ → ℕ) (n end k : ℕ) (rule : sequenceRule start size n end k ≡ true) where
-  pub sequence-begins : start k ≡ sum size k
-  unfolding sequenceRule
-  sequence-begins = eqb-true (start k) (sum size k) (search (and-left, and-right))
+module _ (start size before n end k : ℕ) (rule : inSequence start size before n end k ≡ true) where
+  pub sequence-begins : start ≡ before
+  unfolding inSequence
+  sequence-begins = eqb-true start before (search (and-left, and-right))
 
-  pub sequence-fits : start k + size k ≤ end
-  unfolding sequenceRule
-  sequence-fits = leb-true (start k + size k) end (search (and-left, and-right))
+  pub sequence-fits : start + size ≤ end
+  unfolding inSequence
+  sequence-fits = leb-true (start + size) end (search (and-left, and-right))
 
-pub class-sequence : (b : List ℕ) (c : ℕ) → classRule b c ≡ true → sequenceRule (listOffset b) (listLength b) (classCount b) (extent b 1) c ≡ true
+pub class-sequence : (b : List ℕ) (c : ℕ) → classRule b c ≡ true → sequenceRule (listOffset b) (listLength b) (classCount b) (extent b parentSection) c ≡ true
 unfolding classRule
 class-sequence b c e = search (and-left, and-right)
 
-pub method-sequence : (b : List ℕ) (m : ℕ) → methodRule b m ≡ true → sequenceRule (bodyOffset b) (bodyLength b) (methodCount b) (extent b 5) m ≡ true
+pub method-sequence : (b : List ℕ) (m : ℕ) → methodRule b m ≡ true → sequenceRule (bodyOffset b) (bodyLength b) (methodCount b) (extent b codeSection) m ≡ true
 unfolding methodRule
 method-sequence b m e = search (and-left, and-right) depth 9
 
@@ -48,62 +48,45 @@ rules-sections b r = sections b (r .size) (r .chain)
 
 -- each section, record, list and body lies within the bundle, so each part read from it is as long as it says
 module _ (b : List ℕ) (r : Rules b) where
-  pub offset-within : (k : ℕ) → k < 6 → offset b k ≤ length b
-  offset-within zero h = omega (arith, rules-sections b r)
-  offset-within (suc zero) h = omega (arith, rules-sections b r)
-  offset-within (suc (suc zero)) h = omega (arith, rules-sections b r)
-  offset-within (suc (suc (suc zero))) h = omega (arith, rules-sections b r)
-  offset-within (suc (suc (suc (suc zero)))) h = omega (arith, rules-sections b r)
-  offset-within (suc (suc (suc (suc (suc zero))))) h = omega (arith, rules-sections b r)
-  offset-within (suc (suc (suc (suc (suc (suc k)))))) h = absurd (omega arith)
-
-  pub class-within : (c : ℕ) → c < classCount b → classAt b c + classBytes ≤ offset b 1
-  unfolding classAt classCount
-  class-within c h = let s = rules-sections b r in omega arith
-
-  pub function-within : (f : ℕ) → f < functionCount b → offset b functionSection + f < offset b 3
-  unfolding functionCount
-  function-within f h = let s = rules-sections b r in omega arith
-
-  pub signature-within : (s : ℕ) → s < signatureCount b → signatureAt b s + signatureBytes ≤ offset b 4
+  pub signature-within : (s : ℕ) → s < signatureCount b → signatureAt b s + signatureBytes ≤ offset b methodSection
   unfolding signatureAt signatureCount
   signature-within s h = let p = rules-sections b r in omega arith
 
-  pub method-within : (m : ℕ) → m < methodCount b → methodAt b m + methodBytes ≤ offset b 5
+  pub method-within : (m : ℕ) → m < methodCount b → methodAt b m + methodBytes ≤ offset b codeSection
   unfolding methodAt methodCount
   method-within m h = let s = rules-sections b r in omega arith
 
-  pub list-within : (c : ℕ) → c < classCount b → offset b 1 + listOffset b c + listLength b c ≤ offset b 2
+  pub list-within : (c : ℕ) → c < classCount b → offset b parentSection + listOffset b c + listLength b c ≤ offset b functionSection
   list-within c h =
       let s = rules-sections b r in
-      let f = sequence-fits (listOffset b) (listLength b) (classCount b) (extent b 1) c (class-sequence b c (r .ofClass c h)) in
+      let f = sequence-fits _ _ _ _ _ _ (class-sequence b c (r .ofClass c h)) in
       omega arith
 
-  pub body-within : (m : ℕ) → m < methodCount b → offset b 5 + bodyOffset b m + bodyLength b m ≤ length b
+  pub body-within : (m : ℕ) → m < methodCount b → offset b codeSection + bodyOffset b m + bodyLength b m ≤ length b
   body-within m h =
       let s = rules-sections b r in
-      let f = sequence-fits (bodyOffset b) (bodyLength b) (methodCount b) (extent b 5) m (method-sequence b m (r .ofMethod m h)) in
+      let f = sequence-fits _ _ _ _ _ _ (method-sequence b m (r .ofMethod m h)) in
       omega arith
 
   pub parents-length : (c : ℕ) → c < classCount b → length (parentsOf b c) ≡ listLength b c
   unfolding parentsOf
-  parents-length c h = part-length b (offset b 1 + listOffset b c) (listLength b c) (omega (arith, list-within c h, offset-within 2 (omega arith)))
+  parents-length c h = part-length b (offset b parentSection + listOffset b c) (listLength b c) (omega (arith, list-within c h, rules-sections b r))
 
   pub code-length : (m : ℕ) → m < methodCount b → length (codeOf b m) ≡ bodyLength b m
   unfolding codeOf
-  code-length m h = part-length b (offset b 5 + bodyOffset b m) (bodyLength b m) (body-within m h)
+  code-length m h = part-length b (offset b codeSection + bodyOffset b m) (bodyLength b m) (body-within m h)
 
   pub sig-tuple-length : (s : ℕ) → s < signatureCount b → length (sigTupleOf b s) ≡ places
   unfolding sigTupleOf
-  sig-tuple-length s h = part-length b (signatureAt b s + 1) places (omega (arith, signature-within s h, offset-within 4 (omega arith)))
+  sig-tuple-length s h = part-length b (sigTupleAt b s) places (omega (arith, signature-within s h, rules-sections b r))
 
   pub specialiser-tuple-length : (m : ℕ) → m < methodCount b → length (specialiserTupleOf b m) ≡ places
   unfolding specialiserTupleOf
-  specialiser-tuple-length m h = part-length b (methodAt b m + 1) places (omega (arith, method-within m h, offset-within 5 (omega arith)))
+  specialiser-tuple-length m h = part-length b (specialiserTupleAt b m) places (omega (arith, method-within m h, rules-sections b r))
 
   pub declared-tuple-length : (m : ℕ) → m < methodCount b → length (declaredTupleOf b m) ≡ places
   unfolding declaredTupleOf
-  declared-tuple-length m h = part-length b (methodAt b m + (1 + places)) places (omega (arith, method-within m h, offset-within 5 (omega arith)))
+  declared-tuple-length m h = part-length b (declaredTupleAt b m) places (omega (arith, method-within m h, rules-sections b r))
 
 zeros-read-zero : (t : List ℕ) → every (λ c. eqb c 0) t ≡ true → (i : ℕ) → getD t i 0 ≡ 0
 unfolding every

@@ -8,8 +8,8 @@ use mathlib.Core.Bool.{Bool, true}
 use mathlib.Core.List.{List}
 use borrow.Author.Count.{below-more}
 use Rattle.rules.specs.Bounded.{sum}
-use Rattle.rules.specs.Layout.{sequenceRule, classRule, methodRule, classCount, methodCount, listOffset, listLength, bodyOffset, bodyLength, extent, parentSection, codeSection}
-use Rattle.rules.specs.Running.{Reached, first, next, inSequence, EndsAreSums, RunningEnds}
+use Rattle.rules.specs.Layout.{classRule, methodRule, classCount, methodCount, listOffset, listLength, bodyOffset, bodyLength, extent, parentSection, codeSection}
+use Rattle.rules.specs.Running.{Reached, first, next, EndsAreSums, RunningEnds}
 
 pub sum-next : (f : ℕ → ℕ) (k : ℕ) → sum f (k + 1) ≡ sum f k + f k
 unfolding sum
@@ -32,15 +32,11 @@ module _ {rule : ℕ → Bool} {size : ℕ → ℕ} {n : ℕ} where
       subst (λ x. Reached rule size n x (sum size x)) (add-one k)
       (rw (sum-next size k) (next (all-reached k (omega arith) (λ j i. kept j (omega arith))) (omega arith) (kept k (omega arith))))
 
-pub in-sequence : (start size : ℕ → ℕ) (n end k : ℕ) → sequenceRule start size n end k ≡ inSequence (start k) (size k) (sum size k) n end k
-unfolding sequenceRule inSequence
-in-sequence start size n end k = refl
-
 pub ends-are-sums : (rule : ℕ → Bool) (start size : ℕ → ℕ) (n end : ℕ) → EndsAreSums rule start size n end
 ends-are-sums rule start size n end =
     record {
       is-sum = λ k before r. running-end r;
-      judged-alike = λ k before r. rw (running-end r) (sym (in-sequence start size n end k));
+      judged-alike = λ k before r. rw (running-end r);
       all-reached = all-reached;
     }
 

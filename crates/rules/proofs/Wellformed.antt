@@ -11,7 +11,7 @@ use lib.ListN.{length, take, getD}
 use lib.Seq.{length-take-le, take-all}
 use borrow.Author.Tests.{leb-true, ltb-true, eqb-true, not-true, lt-leb, le-leb, eq-eqb}
 use Rattle.rules.specs.Bounded.{upto, sum, every, any, matching}
-use Rattle.rules.specs.Layout.{gives, refuses, require, opening, sizeRule, limitRule, tupleRule, classCount, functionCount, signatureCount, methodCount, maxClasses, maxFunctions, maxSignatures, maxMethods, places, extent, listOffset, listLength, parentsOf, classRule, arityOf, functionRule, sigFunctionOf, sigTupleOf, sigResultOf, signatureRule, functionOf, specialiserTupleOf, declaredTupleOf, resultOf, bodyOffset, bodyLength, codeOf, methodRule, twins, twinRule, instructionRule, everyPair, codeRule}
+use Rattle.rules.specs.Layout.{gives, refuses, require, opening, sizeRule, limitRule, tupleRule, classCount, functionCount, signatureCount, methodCount, maxClasses, maxFunctions, maxSignatures, maxMethods, places, listOffset, listLength, parentsOf, classRule, arityOf, functionRule, sigFunctionOf, sigTupleOf, sigResultOf, signatureRule, functionOf, specialiserTupleOf, declaredTupleOf, resultOf, bodyOffset, bodyLength, codeOf, methodRule, twins, twinRule, instructionRule, everyPair, codeRule}
 use Rattle.rules.specs.Model.{Model, Wellformed, decode, instructions, modelOf, present, operandRule}
 use Rattle.rules.proofs.Lists.{and-left, and-right, and-both, any-from, below-upto, matching-from}
 use Rattle.rules.proofs.Opening.{Rules, opened-rules}
@@ -32,12 +32,10 @@ long-refused b h = outside-refused b (rw (le-leb 24 (length b) (omega arith), lt
 -- each list and each body begins at the sum of the lengths before it
 module _ (b counts : List ℕ) (opened : opening b ≡ gives counts) where
   pub list-begins : (c : ℕ) → c < classCount b → listOffset b c ≡ sum (listLength b) c
-  list-begins c h =
-      sequence-begins (listOffset b) (listLength b) (classCount b) (extent b 1) c (class-sequence b c (opened-rules b counts opened .ofClass c h))
+  list-begins c h = sequence-begins _ _ _ _ _ _ (class-sequence b c (opened-rules b counts opened .ofClass c h))
 
   pub body-begins : (m : ℕ) → m < methodCount b → bodyOffset b m ≡ sum (bodyLength b) m
-  body-begins m h =
-      sequence-begins (bodyOffset b) (bodyLength b) (methodCount b) (extent b 5) m (method-sequence b m (opened-rules b counts opened .ofMethod m h))
+  body-begins m h = sequence-begins _ _ _ _ _ _ (method-sequence b m (opened-rules b counts opened .ofMethod m h))
 
 -- a tuple that keeps its rule
 module _ (classes n : ℕ) (t : List ℕ) (rule : tupleRule classes n t ≡ true) where

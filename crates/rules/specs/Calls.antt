@@ -5,6 +5,7 @@ use mathlib.Core.Bool.{Bool, cond, _&&_}
 use mathlib.Core.List.{List, [], _∷_, _++_, map}
 use lib.Dec.{ltb, leb}
 use lib.ListN.{length, take, drop}
+use Rattle.rules.specs.Numbers as numbers
 use Rattle.rules.specs.Bounded.{upto, every}
 use Rattle.rules.specs.Layout.{Answer, gives, refuses, opening, codeAt, codeOf, require, tupleRule}
 use Rattle.rules.specs.Model.{Model, modelOf}
@@ -31,7 +32,7 @@ module _ {A : Type 0} where
 
   -- then 19
   unfoldable pub withScratch : List ℕ → ℕ → (Model → Answer A) → Answer A
-  withScratch b scratch answer = whenOpen b (λ M. require (leb scratchBytes scratch) 19 (answer M))
+  withScratch b scratch answer = whenOpen b (λ M. require (leb scratchBytes scratch) numbers.shortScratch (answer M))
 
 -- What follows 19 is a definition of its own for each call, over the model.
 -- A call's send is a function and a number for each of the layout's places. 18 where the function or a class is absent, or an unused place is not 0 (M 10.4).
@@ -48,7 +49,7 @@ openingCall b = opening b
 
 -- the ancestry call (M 4.2)
 unfoldable pub ancestryIn : ℕ → ℕ → Model → Answer Ancestry
-ancestryIn a c M = require (ltb a (M .classes) && ltb c (M .classes)) 18 (gives (ancestry M a c))
+ancestryIn a c M = require (ltb a (M .classes) && ltb c (M .classes)) numbers.absent (gives (ancestry M a c))
 
 unfoldable pub ancestryCall : List ℕ → ℕ → ℕ → ℕ → Answer Ancestry
 ancestryCall b scratch a c = withScratch b scratch (ancestryIn a c)
@@ -60,25 +61,25 @@ pub record Match : Type 0 where
 
 unfoldable pub foundAnswer : Model → ℕ → List ℕ → Found → Answer Match
 foundAnswer M f tuple (found m) = gives (record { method = m; isExact = exact M (used M f tuple) m })
-foundAnswer M f tuple missing = refuses 10 (f ∷ tuple)
-foundAnswer M f tuple (ambiguous m n) = refuses 11 (f ∷ tuple ++ m ∷ n ∷ [])
+foundAnswer M f tuple missing = refuses numbers.noMethod (f ∷ tuple)
+foundAnswer M f tuple (ambiguous m n) = refuses numbers.ambiguous (f ∷ tuple ++ m ∷ n ∷ [])
 
 -- the lookup call; abstract classes are let through (M 5.6)
 unfoldable pub lookupIn : ℕ → List ℕ → Model → Answer Match
-lookupIn f tuple M = require (sendRule M f tuple) 18 (foundAnswer M f tuple (lookup M f (used M f tuple)))
+lookupIn f tuple M = require (sendRule M f tuple) numbers.absent (foundAnswer M f tuple (lookup M f (used M f tuple)))
 
 unfoldable pub lookupCall : List ℕ → ℕ → ℕ → List ℕ → Answer Match
 lookupCall b scratch f tuple = withScratch b scratch (lookupIn f tuple)
 
 unfoldable pub licensed : Static → Answer Static
-licensed [] = refuses 16 []
+licensed [] = refuses numbers.noLicence []
 licensed (c ∷ cs) = gives (c ∷ cs)
 
 -- the send type call; abstract classes are let through (M 7.5)
 unfoldable pub sendTypeIn : ℕ → ℕ → List ℕ → Model → Answer Static
 sendTypeIn row f tuple M =
-    require (leb rowBytes row) 20
-    (require (sendRule M f tuple) 18 (licensed (sendType M f (map (λ c. c ∷ []) (used M f tuple)))))
+    require (leb rowBytes row) numbers.shortBuffer
+    (require (sendRule M f tuple) numbers.absent (licensed (sendType M f (map (λ c. c ∷ []) (used M f tuple)))))
 
 unfoldable pub sendTypeCall : List ℕ → ℕ → ℕ → ℕ → List ℕ → Answer Static
 sendTypeCall b scratch row f tuple = withScratch b scratch (sendTypeIn row f tuple)
@@ -100,14 +101,14 @@ unfoldable pub witnessAnswer : Model → ℕ → List ℕ → Answer (Unit {0})
 witnessAnswer M s args = coverageRefusal M s args (judge M s args)
 
 unfoldable pub witnessIn : ℕ → List ℕ → Model → Answer (Unit {0})
-witnessIn s tuple M = require (witnessRule M s tuple) 18 (witnessAnswer M s (used M (M .sigFunction s) tuple))
+witnessIn s tuple M = require (witnessRule M s tuple) numbers.absent (witnessAnswer M s (used M (M .sigFunction s) tuple))
 
 unfoldable pub witnessCall : List ℕ → ℕ → ℕ → List ℕ → Answer (Unit {0})
 witnessCall b scratch s tuple = withScratch b scratch (witnessIn s tuple)
 
 -- the body view: a method's code (M 10.6)
 unfoldable pub bodyViewCall : List ℕ → ℕ → Answer (List ℕ)
-bodyViewCall b m = whenOpen b (λ M. require (ltb m (M .methods)) 18 (gives (codeOf b m)))
+bodyViewCall b m = whenOpen b (λ M. require (ltb m (M .methods)) numbers.absent (gives (codeOf b m)))
 
 unfoldable pub startOn : Answer (List ℕ) → ℕ → ℕ
 startOn (gives code) at = at
@@ -117,10 +118,14 @@ startOn (refuses number values) at = 0
 unfoldable pub bodyViewStart : List ℕ → ℕ → ℕ
 bodyViewStart b m = startOn (bodyViewCall b m) (codeAt b m)
 
--- the run call; 18 where an argument class is abstract (M 8.1, 10.4)
+-- 18 of a run: also where an argument class is abstract (M 8.1, 10.4)
+unfoldable pub runRule : Model → ℕ → List ℕ → Bool
+runRule M f tuple = sendRule M f tuple && every (concreteClass M) (used M f tuple)
+
+-- the run call
 unfoldable pub runIn : ℕ → List ℕ → ℕ → Model → Answer Outcome
 runIn f tuple count M =
-    require (sendRule M f tuple && every (concreteClass M) (used M f tuple)) 18 (gives ((run M f (used M f tuple) count) .outcome))
+    require (runRule M f tuple) numbers.absent (gives ((run M f (used M f tuple) count) .outcome))
 
 unfoldable pub runCall : List ℕ → ℕ → ℕ → List ℕ → ℕ → Answer Outcome
 runCall b scratch f tuple count = withScratch b scratch (runIn f tuple count)

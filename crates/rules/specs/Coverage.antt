@@ -5,8 +5,9 @@ use mathlib.Core.Path.{_≡_}
 use mathlib.Core.Bool.{Bool, true, false, cond, _&&_}
 use mathlib.Core.List.{List, [], _∷_, _++_, map}
 use mathlib.Core.Option.{Option, none, some}
-use lib.Dec.{ltb}
-use Rattle.rules.specs.Bounded.{upto, every, keep, first}
+use lib.Dec.{ltb, eqb}
+use Rattle.rules.specs.Numbers as numbers
+use Rattle.rules.specs.Bounded.{upto, every, any, keep, first}
 use Rattle.rules.specs.Layout.{Answer, gives, refuses, padded}
 use Rattle.rules.specs.Model.{Model}
 use Rattle.rules.specs.Subclass.{subclass, under}
@@ -16,6 +17,14 @@ use Rattle.rules.specs.Types.{Typing, typed, breaks, typeBody}
 -- a signature covers the tuples whose classes are under its own, place by place (M 6.1)
 unfoldable pub covers : Model → ℕ → List ℕ → Bool
 covers M s args = under M args (M .sigArgs s)
+
+-- signature s is one of function f and covers the arguments
+unfoldable pub coversSend : Model → ℕ → List ℕ → ℕ → Bool
+coversSend M f args s = eqb (M .sigFunction s) f && covers M s args
+
+-- some signature covers a send
+unfoldable pub isCovered : Model → ℕ → List ℕ → Bool
+isCovered M f args = any (coversSend M f args) (upto (M .signatures))
 
 -- the declared classes of m hold the arguments: each argument is under the one at its place (M 6.2)
 unfoldable pub declaredHold : Model → ℕ → List ℕ → Bool
@@ -29,12 +38,12 @@ pub data Judgement : Type 0 where
 -- The coverage rule (M 6.2): lookup finds a method, whose declared classes hold the arguments and whose result is under the signature's. The reasons to
 -- fail are tried in the order of their numbers, 10 to 13.
 unfoldable pub judgeFound : Model → ℕ → List ℕ → Found → Judgement
-judgeFound M s args missing = fails 10 []
-judgeFound M s args (ambiguous m n) = fails 11 (m ∷ n ∷ [])
+judgeFound M s args missing = fails numbers.noMethod []
+judgeFound M s args (ambiguous m n) = fails numbers.ambiguous (m ∷ n ∷ [])
 judgeFound M s args (found m) =
     cond (declaredHold M m args)
-    (cond (subclass M (M .result m) (M .sigResult s)) (holds m) (fails 13 (m ∷ [])))
-    (fails 12 (m ∷ []))
+    (cond (subclass M (M .result m) (M .sigResult s)) (holds m) (fails numbers.wideResult (m ∷ [])))
+    (fails numbers.narrowDeclared (m ∷ []))
 
 unfoldable pub judge : Model → ℕ → List ℕ → Judgement
 judge M s args = judgeFound M s args (lookup M (M .sigFunction s) args)

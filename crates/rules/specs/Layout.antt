@@ -1,15 +1,16 @@
 -- The bundle (M 2 and 3): the directory, the records, the rule of each as a test that computes, and opening.
 -- Assumes nothing.
 use Prim.Native.Nat.{ℕ, zero, suc, _+_, _*_, _/_, _%_}
-use mathlib.Core.Bool.{Bool, true, false, not, _&&_, _||_, Bool·beq}
+use mathlib.Core.Bool.{Bool, true, false, cond, not, _&&_, _||_, Bool·beq}
 use mathlib.Core.List.{List, [], _∷_, _++_}
 use mathlib.Core.Option.{Option, none, some}
 use lib.Dec.{leb, ltb, eqb}
 use lib.ListN.{length, take, drop, replicate}
+use Rattle.rules.specs.Numbers as numbers
 use Rattle.rules.specs.Bounded.{upto, sum, every, any, first, matching}
 use Rattle.rules.specs.Bytes.{byte, word, part}
 
--- A call's answer: what it gives, or one of the numbers 1 to 20 with the values that are named beside it (M 11).
+-- A call's answer: what it gives, or the number by which it refuses (`Numbers`), with the values that are named beside it (M 11).
 pub data Answer (A : Type 0) : Type 0 where
   gives : A → Answer A
   refuses : ℕ → List ℕ → Answer A
@@ -109,17 +110,23 @@ limitRule b =
     && leb (signatureCount b) maxSignatures
     && leb (methodCount b) maxMethods
 
--- Lists of parents, and bodies, stand one behind the other and fill their section (M 2.4, 2.7). Record k's list lies within its section,
--- begins where the lengths before it add up to, and ends the section where k is the last of n: bytes left over are the last record's fault (M 3.2).
-unfoldable pub sequenceRule : (ℕ → ℕ) → (ℕ → ℕ) → ℕ → ℕ → ℕ → Bool
-sequenceRule start size n end k =
-    eqb (start k) (sum size k)
-    && leb (start k + size k) end
-    && (ltb (suc k) n || eqb (start k + size k) end)
+-- Lists of parents, and bodies, stand one behind the other and fill their section (M 2.4, 2.7). The list of record k, of n, lies within its section, begins where
+-- those before it end, and ends the section where k is the last: bytes left over are the last record's fault (M 3.2).
+unfoldable pub inSequence : ℕ → ℕ → ℕ → ℕ → ℕ → ℕ → Bool
+inSequence start size before n end k =
+    eqb start before && leb (start + size) end && (ltb (suc k) n || eqb (start + size) end)
+
+-- those before it end where their lengths add up to
+abbrev pub sequenceRule : (ℕ → ℕ) → (ℕ → ℕ) → ℕ → ℕ → ℕ → Bool
+sequenceRule start size n end k = inSequence (start k) (size k) (sum size k) n end k
 
 -- Of a tuple the first n places are used: these hold classes that are there, and the rest hold 0 (M 2.9).
 unfoldable pub tupleRule : ℕ → ℕ → List ℕ → Bool
 tupleRule classes n tuple = every (λ c. ltb c classes) (take n tuple) && every (λ c. eqb c 0) (drop n tuple)
+
+-- the same of place i alone, which holds x
+unfoldable pub placeRule : ℕ → ℕ → ℕ → ℕ → Bool
+placeRule classes n i x = cond (ltb i n) (ltb x classes) (eqb x 0)
 
 -- the class record (M 2.4)
 unfoldable pub classAt : List ℕ → ℕ → ℕ
@@ -170,8 +177,12 @@ signatureAt b s = offset b signatureSection + signatureBytes * s
 unfoldable pub sigFunctionOf : List ℕ → ℕ → ℕ
 sigFunctionOf b s = byte b (signatureAt b s)
 
+-- where its places begin
+abbrev pub sigTupleAt : List ℕ → ℕ → ℕ
+sigTupleAt b s = signatureAt b s + 1
+
 unfoldable pub sigTupleOf : List ℕ → ℕ → List ℕ
-sigTupleOf b s = part b (signatureAt b s + 1) places
+sigTupleOf b s = part b (sigTupleAt b s) places
 
 unfoldable pub sigResultOf : List ℕ → ℕ → ℕ
 sigResultOf b s = byte b (signatureAt b s + (1 + places))
@@ -189,11 +200,18 @@ methodAt b m = offset b methodSection + methodBytes * m
 unfoldable pub functionOf : List ℕ → ℕ → ℕ
 functionOf b m = byte b (methodAt b m)
 
+-- where its specialisers and its declared classes begin
+abbrev pub specialiserTupleAt : List ℕ → ℕ → ℕ
+specialiserTupleAt b m = methodAt b m + 1
+
+abbrev pub declaredTupleAt : List ℕ → ℕ → ℕ
+declaredTupleAt b m = methodAt b m + (1 + places)
+
 unfoldable pub specialiserTupleOf : List ℕ → ℕ → List ℕ
-specialiserTupleOf b m = part b (methodAt b m + 1) places
+specialiserTupleOf b m = part b (specialiserTupleAt b m) places
 
 unfoldable pub declaredTupleOf : List ℕ → ℕ → List ℕ
-declaredTupleOf b m = part b (methodAt b m + (1 + places)) places
+declaredTupleOf b m = part b (declaredTupleAt b m) places
 
 unfoldable pub resultOf : List ℕ → ℕ → ℕ
 resultOf b m = byte b (methodAt b m + (1 + 2 * places))
@@ -264,15 +282,15 @@ requireEach (some k) number rest = refuses number (k ∷ [])
 -- Opening: the rules in the order of their numbers, each decided for the whole bundle before the next (M 3.1). A bundle that opens gives its four counts.
 unfoldable pub opening : List ℕ → Answer (List ℕ)
 opening b =
-    require (sizeRule b) 1
-    (require (chainRule b && wholeRule b) 2
-    (require (limitRule b) 3
-    (requireEach (lowest (classRule b) (classCount b)) 4
-    (requireEach (lowest (functionRule b) (functionCount b)) 5
-    (requireEach (lowest (signatureRule b) (signatureCount b)) 6
-    (requireEach (lowest (methodRule b) (methodCount b)) 7
-    (requireEach (lowest (twinRule b) (methodCount b)) 8
-    (requireEach (lowest (codeRule b) (methodCount b)) 9
+    require (sizeRule b) numbers.badLength
+    (require (chainRule b && wholeRule b) numbers.badDirectory
+    (require (limitRule b) numbers.badCounts
+    (requireEach (lowest (classRule b) (classCount b)) numbers.badClass
+    (requireEach (lowest (functionRule b) (functionCount b)) numbers.badFunction
+    (requireEach (lowest (signatureRule b) (signatureCount b)) numbers.badSignature
+    (requireEach (lowest (methodRule b) (methodCount b)) numbers.badMethod
+    (requireEach (lowest (twinRule b) (methodCount b)) numbers.twinMethod
+    (requireEach (lowest (codeRule b) (methodCount b)) numbers.badCode
     (gives (classCount b ∷ functionCount b ∷ signatureCount b ∷ methodCount b ∷ []))))))))))
 
 -- The tuple of `places` numbers for a list of argument classes: unused places are 0.

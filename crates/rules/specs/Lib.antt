@@ -1,5 +1,6 @@
 pub mod Bounded
 pub mod Bytes
+pub mod Numbers
 pub mod Layout
 pub mod Running
 pub mod Model
@@ -20,3 +21,4 @@ pub mod Rough
 pub mod Samples
 pub mod Cases
 pub mod Sound
+pub mod Accepted

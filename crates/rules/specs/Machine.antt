@@ -1,10 +1,11 @@
 -- The stepper (M 8): frames, one instruction with the ends of bodies that follow it, the run and the sends that it meets.
 -- Assumes nothing.
-use Prim.Native.Nat.{ℕ, zero, suc}
+use Prim.Native.Nat.{ℕ, zero, suc, _+_}
 use mathlib.Core.Bool.{cond}
 use mathlib.Core.List.{List, [], _∷_, _++_}
 use lib.Dec.{leb, ltb}
 use lib.ListN.{length, getD, drop}
+use Rattle.rules.specs.Numbers as numbers
 use Rattle.rules.specs.Layout.{padded}
 use Rattle.rules.specs.Model.{Model, Instr, arg, new, send}
 use Rattle.rules.specs.Lookup.{Found, found, missing, ambiguous, lookup}
@@ -36,30 +37,48 @@ pub data Resumption : Type 0 where
   goes : Instr → Frame → List Frame → Resumption
   ends : Ending → Resumption
 
--- An instruction is made, which is one step, or fails, which is none (M 8.5).
+-- An instruction is made, and leaves a frame above its callers; or it fails.
 pub data Turn : Type 0 where
-  made : Resumption → Turn
+  made : Frame → List Frame → Turn
   failed : Ending → Turn
+
+-- What a frame comes to between instructions: it goes on with its next one; its body has ended and returns its one value; or it has ended without just one.
+pub data Settled : Type 0 where
+  unfinished : Instr → Frame → Settled
+  returned : ℕ → Settled
+  unbalanced : Ending → Settled
 
 -- a number with the frame's method and next instruction
 unfoldable pub stoppedAt : ℕ → Frame → Ending
 stoppedAt number g = stopped number (g .method ∷ g .at ∷ [])
 
--- A frame with instructions left goes on. At the end of a body its value is handed to `return`; a body that does not end with one value stops by 14 (M 8.4).
-unfoldable pub settle : List Instr → List ℕ → Frame → List Frame → (ℕ → Resumption) → Resumption
-settle (i ∷ rest) stack g callers return =
-    goes i (record { method = g .method; args = g .args; at = g .at; rest = rest; stack = stack }) callers
-settle [] [] g callers return = ends (stoppedAt 14 g)
-settle [] (v ∷ []) g callers return = return v
-settle [] (v ∷ w ∷ vs) g callers return = ends (stoppedAt 14 g)
+-- a body that does not end with one value stops by 14 (M 8.4)
+unfoldable pub settled : List Instr → List ℕ → Frame → Settled
+settled (i ∷ rest) stack g = unfinished i (record { method = g .method; args = g .args; at = g .at; rest = rest; stack = stack })
+settled [] [] g = unbalanced (stoppedAt numbers.badStack g)
+settled [] (v ∷ []) g = returned v
+settled [] (v ∷ w ∷ vs) g = unbalanced (stoppedAt numbers.badStack g)
+
+unfoldable pub settle : Frame → Settled
+settle g = settled (g .rest) (g .stack) g
 
 unfoldable pub push : ℕ → Frame → Frame
 push v g = record { method = g .method; args = g .args; at = g .at; rest = g .rest; stack = v ∷ g .stack }
 
+-- what a run does with a frame, given what becomes of the value that its body returns
+unfoldable pub proceed : Settled → List Frame → (ℕ → Resumption) → Resumption
+proceed (unfinished i g) callers return = goes i g callers
+proceed (returned v) callers return = return v
+proceed (unbalanced e) callers return = ends e
+
 -- the value of a body that ended is put on its caller's stack, and no step is counted; the value of the opening body ends the run (M 8.4)
+unfoldable pub returnTo : List Frame → ℕ → Resumption
+returnTo [] v = ends (value v)
+returnTo (h ∷ hs) v = proceed (settle (push v h)) hs (λ w. returnTo hs w)
+
+-- a frame above its callers, after the ends of bodies
 unfoldable pub resume : Frame → List Frame → Resumption
-resume g [] = settle (g .rest) (g .stack) g [] (λ v. ends (value v))
-resume g (h ∷ hs) = settle (g .rest) (g .stack) g (h ∷ hs) (λ v. resume (push v h) hs)
+resume g callers = proceed (settle g) callers (λ v. returnTo callers v)
 
 -- What a send comes to before frames are counted: the method whose frame it opens, or a number with the methods that it names.
 pub data Target : Type 0 where
@@ -68,19 +87,20 @@ pub data Target : Type 0 where
 
 -- what a send finds: a method whose declared classes hold the arguments, or why the run stops, by 10, 11 or 12 (M 8.2)
 unfoldable pub targetFound : Model → List ℕ → Found → Target
-targetFound M args missing = stops 10 []
-targetFound M args (ambiguous m n) = stops 11 (m ∷ n ∷ [])
-targetFound M args (found m) = cond (declaredHold M m args) (enters m) (stops 12 (m ∷ []))
+targetFound M args missing = stops numbers.noMethod []
+targetFound M args (ambiguous m n) = stops numbers.ambiguous (m ∷ n ∷ [])
+targetFound M args (found m) = cond (declaredHold M m args) (enters m) (stops numbers.narrowDeclared (m ∷ []))
 
 unfoldable pub target : Model → ℕ → List ℕ → Target
 target M f args = targetFound M args (lookup M f args)
 
+-- the frame of a method before its first instruction
+unfoldable pub opened : Model → ℕ → List ℕ → Frame
+opened M m args = record { method = m; args = args; at = 0; rest = M .body m; stack = [] }
+
 -- the opening of a frame for method m above the callers; Deep where there are as many as there may be (M 8.2)
 unfoldable pub enter : Model → ℕ → List ℕ → List Frame → Turn
-enter M m args callers =
-    cond (ltb (length callers) maxFrames)
-    (made (resume (record { method = m; args = args; at = 0; rest = M .body m; stack = [] }) callers))
-    (failed deep)
+enter M m args callers = cond (ltb (length callers) maxFrames) (made (opened M m args) callers) (failed deep)
 
 unfoldable pub callTarget : Model → ℕ → List ℕ → List Frame → Target → Turn
 callTarget M f args callers (stops number ms) = failed (stopped number (f ∷ padded args ++ ms))
@@ -96,12 +116,12 @@ after g stack = record { method = g .method; args = g .args; at = suc (g .at); r
 
 -- One instruction in the top frame (M 8.3). NEW of an abstract class is 15, a SEND with too few values 14.
 unfoldable pub turn : Model → Instr → Frame → List Frame → Turn
-turn M (arg i) g callers = made (resume (after g (getD (g .args) i 0 ∷ g .stack)) callers)
-turn M (new c) g callers = cond (M .concrete c) (made (resume (after g (c ∷ g .stack)) callers)) (failed (stoppedAt 15 g))
+turn M (arg i) g callers = made (after g (getD (g .args) i 0 ∷ g .stack)) callers
+turn M (new c) g callers = cond (M .concrete c) (made (after g (c ∷ g .stack)) callers) (failed (stoppedAt numbers.abstractNew g))
 turn M (send f) g callers =
     cond (leb (M .arity f) (length (g .stack)))
     (call M f (arguments (M .arity f) (g .stack)) (after g (drop (M .arity f) (g .stack)) ∷ callers))
-    (failed (stoppedAt 14 g))
+    (failed (stoppedAt numbers.badStack g))
 
 -- A send that a run meets, with what the run finds for it.
 pub record Send : Type 0 where
@@ -118,6 +138,41 @@ sent M (arg i) g = []
 sent M (new c) g = []
 sent M (send f) g = cond (leb (M .arity f) (length (g .stack))) (meeting M f (arguments (M .arity f) (g .stack)) ∷ []) []
 
+-- A run on its way: what it goes on with or how it ended, and the steps that it made.
+pub record Progress : Type 0 where
+  pub next : Resumption
+  pub steps : ℕ
+
+abbrev pub progress : Resumption → ℕ → Progress
+progress l n = record { next = l; steps = n }
+
+-- what a run goes on with after a turn
+unfoldable pub landed : Turn → Resumption
+landed (made g callers) = resume g callers
+landed (failed e) = ends e
+
+-- an instruction that is made is one step, one that fails is none (M 8.5)
+unfoldable pub counted : Turn → ℕ → ℕ
+counted (made g callers) steps = steps + 1
+counted (failed e) steps = steps
+
+-- the run of a send at its start: what the opening send finds is no step (M 8.5)
+unfoldable pub start : Model → ℕ → List ℕ → Progress
+start M f args = progress (landed (call M f args [])) 0
+
+-- One pace: an instruction, with the ends of bodies that follow it. A run that has ended makes no more.
+unfoldable pub paceFrom : Model → Resumption → ℕ → Progress
+paceFrom M (goes i g callers) steps = progress (landed (turn M i g callers)) (counted (turn M i g callers) steps)
+paceFrom M (ends e) steps = progress (ends e) steps
+
+unfoldable pub pace : Model → Progress → Progress
+pace M p = paceFrom M (p .next) (p .steps)
+
+-- the sends that it meets in its next pace
+unfoldable pub sentNext : Model → Resumption → List Send
+sentNext M (goes i g callers) = sent M i g
+sentNext M (ends e) = []
+
 -- how a run ends, and the steps it made (M 8.6)
 pub record Outcome : Type 0 where
   pub ending : Ending
@@ -128,24 +183,22 @@ pub record Run : Type 0 where
   pub outcome : Outcome
   pub met : List Send
 
-unfoldable pub finished : Ending → ℕ → Run
-finished e steps = record { outcome = record { ending = e; steps = steps }; met = [] }
+-- a run that makes no more paces is Spent, unless it has ended (M 8.5)
+unfoldable pub endingNow : Resumption → Ending
+endingNow (goes i g callers) = spent
+endingNow (ends e) = e
+
+unfoldable pub finished : Progress → Run
+finished p = record { outcome = record { ending = endingNow (p .next); steps = p .steps }; met = [] }
 
 unfoldable pub meets : List Send → Run → Run
 meets sends r = record { outcome = r .outcome; met = sends ++ r .met }
 
-unfoldable pub afterTurn : Turn → ℕ → (Resumption → Run) → Run
-afterTurn (made l) steps continue = continue l
-afterTurn (failed e) steps continue = finished e steps
+-- the run from some progress on, with so many paces left
+unfoldable pub runFrom : Model → ℕ → Progress → Run
+runFrom M zero p = finished p
+runFrom M (suc left) p = meets (sentNext M (p .next)) (runFrom M left (pace M p))
 
--- The run from an instruction on: Spent before it where nothing is left of the count (M 8.5). `left` is what is left.
-unfoldable pub runFrom : Model → ℕ → ℕ → Resumption → Run
-runFrom M zero steps (ends e) = finished e steps
-runFrom M zero steps (goes i g callers) = finished spent steps
-runFrom M (suc left) steps (ends e) = finished e steps
-runFrom M (suc left) steps (goes i g callers) =
-    meets (sent M i g) (afterTurn (turn M i g callers) steps (λ l. runFrom M left (suc steps) l))
-
--- the run of a send: what the opening send finds is no step (M 8.5)
+-- the run of a send: its start, and as many paces as the count says
 unfoldable pub run : Model → ℕ → List ℕ → ℕ → Run
-run M f args count = meets (meeting M f args ∷ []) (afterTurn (call M f args []) 0 (λ l. runFrom M count 0 l))
+run M f args count = meets (meeting M f args ∷ []) (runFrom M count (start M f args))

@@ -33,11 +33,12 @@ pub record Model : Type 0 where
   pub result : ℕ → ℕ
   pub body : ℕ → List Instr
 
--- An operation above 2 is refused by number 9, so what stands for it here is never met.
+-- Number 9 refuses every other operation, and so is what stands for it here: ARG of a place that no method has.
 unfoldable pub decode : ℕ → ℕ → Instr
 decode zero operand = arg operand
 decode (suc zero) operand = new operand
-decode (suc (suc n)) operand = send operand
+decode (suc (suc zero)) operand = send operand
+decode (suc (suc (suc n))) operand = arg places
 
 unfoldable pub instructions : List ℕ → List Instr
 instructions [] = []

@@ -1,4 +1,4 @@
--- Arguments known only roughly (request Five): what a send finds where an upper class is known for each argument, and no more.
+-- Arguments known only roughly (M 14): what a send finds where an upper class is known for each argument, and no more.
 -- Assumes nothing.
 use Prim.Native.Nat.{ℕ}
 use mathlib.Core.Path.{_≡_}
@@ -7,6 +7,7 @@ use mathlib.Core.Logic.{_⊎_}
 use mathlib.Core.List.{List, List·Memᴰ}
 use mathlib.Core.Option.{Option, none, some}
 use lib.Dec.{eqb}
+use Rattle.rules.specs.Numbers as numbers
 use Rattle.rules.specs.Bounded.{upto, every, any, first}
 use Rattle.rules.specs.Layout.{Answer, gives, require}
 use Rattle.rules.specs.Model.{Model}
@@ -15,7 +16,7 @@ use Rattle.rules.specs.Lookup.{Found, found, missing, ambiguous, lookup}
 use Rattle.rules.specs.Coverage.{concreteClass, candidateClass, tuples, Below}
 use Rattle.rules.specs.Calls.{withScratch, sendRule, used}
 
--- One method, which every tuple below the upper classes finds; or some such tuple finds none or two; or each finds one, and not all of them the same.
+-- One method, which every tuple below the upper classes finds; or some such tuple finds none or two; or each finds one, and not all of them the same (M 14.2).
 pub data Rough : Type 0 where
   one : ℕ → Rough
   mayFail : Rough
@@ -46,7 +47,7 @@ roughBy (some m) fails = one m
 roughBy none true = mayFail
 roughBy none false = several
 
--- what the tuples of concrete classes below the upper classes find
+-- what the tuples of concrete classes below the upper classes find (M 14.1, M 14.2)
 unfoldable pub rough : Model → ℕ → List ℕ → Rough
 rough M f upper = roughBy (sharedMethod M f (tuples M upper)) (someFails M f (tuples M upper))
 
@@ -54,13 +55,13 @@ rough M f upper = roughBy (sharedMethod M f (tuples M upper)) (someFails M f (tu
 unfoldable pub hasConcrete : Model → ℕ → Bool
 hasConcrete M c = any (candidateClass M c) (upto (M .classes))
 
--- 24 where an upper class has no concrete class under it
+-- 24 where an upper class has no concrete class under it (M 14.3)
 unfoldable pub roughOf : Model → ℕ → List ℕ → Answer Rough
-roughOf M f upper = require (every (hasConcrete M) upper) 24 (gives (rough M f upper))
+roughOf M f upper = require (every (hasConcrete M) upper) numbers.noConcrete (gives (rough M f upper))
 
--- the rough call: 18 as for a lookup, then 24; unused places have no upper class
+-- the rough call (M 14.3): 18 as for a lookup, then 24; unused places have no upper class
 unfoldable pub roughIn : ℕ → List ℕ → Model → Answer Rough
-roughIn f tuple M = require (sendRule M f tuple) 18 (roughOf M f (used M f tuple))
+roughIn f tuple M = require (sendRule M f tuple) numbers.absent (roughOf M f (used M f tuple))
 
 unfoldable pub roughCall : List ℕ → ℕ → ℕ → List ℕ → Answer Rough
 roughCall b scratch f tuple = withScratch b scratch (roughIn f tuple)
@@ -77,19 +78,19 @@ pub record Differing (M : Model) (f : ℕ) (upper : List ℕ) : Type 0 where
   pub rightFound : lookup M f right ≡ found rightMethod
   pub apart : leftMethod ≡ rightMethod → ⊥
 
--- What an answer says of the tuples below.
+-- What an answer says of the tuples below (M 14.2).
 abbrev pub Says : Model → ℕ → List ℕ → Rough → Type 0
 Says M f upper (one m) = (t : List ℕ) → Below M upper t → lookup M f t ≡ found m
 Says M f upper mayFail = (t : List ℕ) × Below M upper t × (isFailure (lookup M f t) ≡ true)
 Says M f upper several = ((t : List ℕ) → Below M upper t → isFailure (lookup M f t) ≡ false) × Differing M f upper
 
--- What an answer may become where upper classes give way to classes under them.
+-- What an answer may become where upper classes give way to classes under them (M 14.4).
 abbrev pub NarrowsTo : Rough → Rough → Type 0
 NarrowsTo (one m) r = r ≡ one m
 NarrowsTo mayFail r = Unit {0}
 NarrowsTo several r = (r ≡ several) ⊎ ((m : ℕ) × (r ≡ one m))
 
--- a concrete class with no other concrete class under it
+-- a concrete class with no other concrete class under it (M 14.4)
 pub record Alone (M : Model) (c : ℕ) : Type 0 where
   pub concrete : concreteClass M c ≡ true
   pub itself : (k : ℕ) → concreteClass M k ≡ true → subclass M k c ≡ true → k ≡ c

@@ -1,13 +1,12 @@
 -- The running end. Opening goes through the records of a rule once, in their order, and carries from each record to the next where the lists, or the bodies, of
 -- the records before it end. Here is said which records it comes to, and with which end, without a sum; and that the end is the sum.
 -- Assumes nothing.
-use Prim.Native.Nat.{ℕ, suc, _+_, _≤_, _<_}
+use Prim.Native.Nat.{ℕ, _+_, _≤_, _<_}
 use mathlib.Core.Path.{_≡_}
-use mathlib.Core.Bool.{Bool, true, _&&_, _||_}
+use mathlib.Core.Bool.{Bool, true}
 use mathlib.Core.List.{List}
-use lib.Dec.{eqb, ltb, leb}
 use Rattle.rules.specs.Bounded.{sum}
-use Rattle.rules.specs.Layout.{sequenceRule, classRule, methodRule, classCount, methodCount, listOffset, listLength, bodyOffset, bodyLength, extent, parentSection, codeSection}
+use Rattle.rules.specs.Layout.{inSequence, sequenceRule, classRule, methodRule, classCount, methodCount, listOffset, listLength, bodyOffset, bodyLength, extent, parentSection, codeSection}
 
 module _ (rule : ℕ → Bool) (size : ℕ → ℕ) (n : ℕ) where
   -- Record k of n is reached with this running end: the first with 0, and past a record that keeps the rule the next, with the end advanced by the size of
@@ -15,11 +14,6 @@ module _ (rule : ℕ → Bool) (size : ℕ → ℕ) (n : ℕ) where
   pub data Reached : ℕ → ℕ → Type 0 where
     first : Reached 0 0
     next : {k end : ℕ} → Reached k end → k < n → rule k ≡ true → Reached (k + 1) (end + size k)
-
--- `sequenceRule` of one record, with a running end in place of the sum
-unfoldable pub inSequence : ℕ → ℕ → ℕ → ℕ → ℕ → ℕ → Bool
-inSequence start size before n end k =
-    eqb start before && leb (start + size) end && (ltb (suc k) n || eqb (start + size) end)
 
 -- Of records with a list or body each, in a section of `end` bytes. The running end at a record that is reached is the sum of the sizes of all lower records, as
 -- whole numbers; so the record is judged by it as by the sum. Reached is every record up to and with the first that breaks the rule.

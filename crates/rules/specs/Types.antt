@@ -5,6 +5,7 @@ use mathlib.Core.Bool.{Bool, cond, _&&_}
 use mathlib.Core.List.{List, [], _∷_, map, reverse}
 use lib.Dec.{eqb, leb}
 use lib.ListN.{length, getD, take, drop}
+use Rattle.rules.specs.Numbers as numbers
 use Rattle.rules.specs.Bounded.{upto, any, keep, matching}
 use Rattle.rules.specs.Model.{Model, Instr, arg, new, send}
 use Rattle.rules.specs.Subclass.{subclass}
@@ -47,23 +48,23 @@ pub data Effect : Type 0 where
 
 -- a send whose type this is, with the stack below its arguments
 unfoldable pub sendEffect : Static → List Static → Effect
-sendEffect [] below = breaksBy 16
+sendEffect [] below = breaksBy numbers.noLicence
 sendEffect (c ∷ cs) below = leaves ((c ∷ cs) ∷ below)
 
 -- what an instruction does to the stack of types, or the number by which the body breaks there (M 7.2)
 unfoldable pub effect : Model → ℕ → List Static → Instr → Effect
 effect M m stack (arg i) = leaves (argType M m i ∷ stack)
-effect M m stack (new c) = cond (M .concrete c) (leaves ((c ∷ []) ∷ stack)) (breaksBy 15)
+effect M m stack (new c) = cond (M .concrete c) (leaves ((c ∷ []) ∷ stack)) (breaksBy numbers.abstractNew)
 effect M m stack (send f) =
     cond (leb (M .arity f) (length stack))
     (sendEffect (sendType M f (arguments (M .arity f) stack)) (drop (M .arity f) stack))
-    (breaksBy 14)
+    (breaksBy numbers.badStack)
 
 -- the end of a body: one type is left, and the result class is in it (M 7.2)
 unfoldable pub ending : Model → ℕ → ℕ → List Static → Typing
-ending M m at [] = breaks 14 at
-ending M m at (t ∷ []) = cond (inType M t (M .result m)) typed (breaks 17 at)
-ending M m at (t ∷ u ∷ rest) = breaks 14 at
+ending M m at [] = breaks numbers.badStack at
+ending M m at (t ∷ []) = cond (inType M t (M .result m)) typed (breaks numbers.looseResult at)
+ending M m at (t ∷ u ∷ rest) = breaks numbers.badStack at
 
 unfoldable pub afterEffect : Effect → ℕ → (List Static → Typing) → Typing
 afterEffect (leaves stack) at continue = continue stack

@@ -17,19 +17,12 @@ use Rattle.rules.specs.Calls.{sendRule, used}
 use Rattle.rules.proofs.Lists.{and-left, and-right, every-places, every-broken}
 use Rattle.rules.proofs.Places.{used-places-read}
 use Rattle.layout.specs.Opened.{Opened}
-use Rattle.record_rules.specs.Tests.{placeRule}
 use Rattle.layout.specs.declared.bundle.Bundle.{Bundle}
 use Rattle.layout.proofs.Opened.{counts-of, wellformed-of}
 use Rattle.rules.proofs.Decides.{Decides}
-use Rattle.record_rules.proofs.Tests.{tuple-decides}
 use Rattle.subclasses.specs.Places.{InMatrix}
 use Rattle.subclasses.proofs.Asked.{class-below}
-use Rattle.sends.specs.Send.{fitsPlace, Passes}
-
--- the rule on the places, by place
-pub places-decides : (classes n : ℕ) (tuple : List ℕ) → Decides (tupleRule classes n tuple) (λ i. fitsPlace classes n i (getD tuple i 0)) (length tuple)
-unfolding fitsPlace placeRule
-places-decides classes n tuple = tuple-decides classes n tuple
+use Rattle.sends.specs.Send.{Passes}
 
 module _ {b : List ℕ} {t : Bundle} (o : Opened b t) (f : ℕ) (tuple : List ℕ) where
   pub absent-function : t .functions ≤ f → sendRule (modelOf b) f tuple ≡ false

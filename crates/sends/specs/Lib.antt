@@ -1,2 +1,1 @@
 pub mod Send
-pub mod Covered

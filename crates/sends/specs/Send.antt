@@ -2,18 +2,12 @@
 -- Assumes nothing.
 use Prim.Native.Nat.{ℕ, _≤_}
 use mathlib.Core.Path.{_≡_}
-use mathlib.Core.Bool.{Bool, cond}
 use mathlib.Core.List.{List}
-use lib.Dec.{ltb, eqb}
 use lib.ListN.{length, replicate, take}
 use Rattle.rules.specs.Layout.{places}
 use Rattle.rules.specs.Model.{Model}
 use Rattle.rules.specs.Calls.{used}
 use Rattle.subclasses.specs.Places.{Arguments}
-
--- `tupleRule` of one place: a class where it is used, else 0
-unfoldable pub fitsPlace : ℕ → ℕ → ℕ → ℕ → Bool
-fitsPlace classes n i x = cond (ltb i n) (ltb x classes) (eqb x 0)
 
 -- these classes are the numbers of a send of f, and the first n of them its arguments
 pub record Passes (M : Model) (f : ℕ) (tuple : List ℕ) (n : ℕ) (classes : List ℕ) : Type 0 where

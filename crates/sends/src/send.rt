@@ -1,10 +1,11 @@
 // A send as a caller passes it: any function number, and any number for each place.
+use answers::send::Send;
+use answers::send::Tuple;
 use layout::bundle::Bundle;
 use layout::bytes::byte_at;
 use layout::field::arity;
 use layout::field::is_concrete;
-use subclasses::send::Send;
-use subclasses::send::Tuple;
+use record_rules::tuple::fits;
 ghost use mathlib.Core.Path.{_≡_};
 ghost use mathlib.Core.Bool.{true, false};
 ghost use Prim.Native.Nat.{_<_};
@@ -12,20 +13,10 @@ ghost use Rattle.rules.specs.Bounded.{every};
 ghost use Rattle.rules.specs.Layout.{maxClasses, tupleRule};
 ghost use Rattle.rules.specs.Model.{modelOf, present};
 ghost use Rattle.rules.specs.Coverage.{concreteClass};
-ghost use Rattle.rules.specs.Calls.{sendRule};
+ghost use Rattle.rules.specs.Calls.{sendRule, runRule};
 ghost use Rattle.layout.specs.Opened.{Opened};
-ghost use Rattle.subclasses.specs.Send.{classesOf, tupleOf};
-ghost use Rattle.sends.specs.Send.{fitsPlace, Passes, PassesNone};
-
-// Whether a number is a class at a used place, the first n, or 0 at another.
-fn fits(classes: usize, n: usize, i: usize, x: usize) -> bool
-    ensures { λ r. ⌜ r ≡ fitsPlace classes n i x ⌝ }
-{
-    if i < n {
-        return x < classes;
-    }
-    x == 0
-}
+ghost use Rattle.answers.specs.Send.{classesOf, tupleOf};
+ghost use Rattle.sends.specs.Send.{Passes, PassesNone};
 
 // Whether the numbers are classes at the first n places, and 0 at the others.
 fn is_tuple(classes: usize, n: usize, places: &[usize]) -> bool
@@ -108,4 +99,27 @@ pub fn all_concrete(bundle: &[u8], b: Bundle, args: &[u8]) -> bool
         i += 1;
     }
     true
+}
+
+// The classes that a send passes, for a call that refuses abstract ones too.
+pub fn concrete_classes_of(bundle: &[u8], b: Bundle, send: Send) -> Passed
+    requires { ⌜ Opened (now bundle) b ⌝ }
+    ensures { λ r. ⌜ r .«is_send» ≡ runRule (modelOf (now (bundle .entry))) (send .function) (tupleOf send) ⌝ }
+    ensures { λ r. ⌜ (r .«is_send» ≡ true → Passes (modelOf (now (bundle .entry))) (send .function) (tupleOf send) (r .count) (r .classes)) ⌝ }
+    ensures { λ r. ⌜ (r .«is_send» ≡ false → PassesNone (r .count) (r .classes)) ⌝ }
+{
+    let args = classes_of(bundle, b, send);
+    if !args.is_send {
+        return args;
+    }
+    let n = args.count;
+    let classes = args.classes;
+    if !all_concrete(bundle, b, &classes[..n]) {
+        return Passed {
+            is_send: false,
+            count: 0,
+            classes: [0; Bundle::PLACES],
+        };
+    }
+    args
 }

@@ -16,11 +16,12 @@ use Rattle.rules.specs.Scratch.{scratchBytes, classUnder, entryAt}
 use Rattle.rules.proofs.Lists.{every-place, and-left, and-right}
 use Rattle.rules.proofs.Scratch.{class-under}
 use Rattle.layout.specs.Opened.{Opened}
+use Rattle.layout.specs.Arity.{OfArity}
 use Rattle.layout.specs.declared.bundle.Bundle.{Bundle}
 use Rattle.layout.proofs.Opened.{wellformed-of, counts-of}
 use Rattle.subclasses.specs.Matrix.{Filled, filled, ancestryAt, entriesAt}
 use Rattle.subclasses.specs.Prepared.{Prepared}
-use Rattle.subclasses.specs.Places.{Arguments, OfArity, InMatrix, Comparable}
+use Rattle.subclasses.specs.Places.{Arguments, InMatrix, Comparable}
 
 pub filled-long : {M : Model} {s : List ℕ} → Filled M s → scratchBytes ≤ length s
 filled-long (filled long entries) = long
@@ -42,24 +43,12 @@ module _ {b : List ℕ} {t : Bundle} (o : Opened b t) where
   pub in-matrix : (xs : List ℕ) → present (modelOf b) xs ≡ true → InMatrix xs
   in-matrix xs e i l = omega (arith, class-below (modelOf b) xs e i l, wellformed-of o .classes-limit)
 
-  -- a number below a count of the tables is one of the model's
-  pub of-arity : {f n m : ℕ} → n ≡ modelOf b .arity f → m < t .methods → modelOf b .function m ≡ f → OfArity (modelOf b) n m
-  of-arity e h q = record { bound = omega (arith, counts-of o .methods); arity = e ∙ sym (ap (modelOf b .arity) q) }
-
   -- the arguments of a send are no more than the layout has places
   pub arguments-places : {f : ℕ} {args : List ℕ} → Arguments (modelOf b) f args → length args ≤ places
   arguments-places {f} g = omega (arith, g .arity, wellformed-of o .arity-limit f (g .function))
 
-  -- a method's tuples are as long as its function has arguments, and no longer than the layout has places
+  -- a method's tuples are as long as its function has arguments
   module _ {n m : ℕ} (h : OfArity (modelOf b) n m) where
-    pub method-below : m < t .methods
-    method-below = omega (arith, counts-of o .methods)
-
-    pub method-places : n ≤ places
-    method-places =
-        let w = wellformed-of o in
-        omega (arith, w .arity-limit (modelOf b .function m) (w .function-present m (h .bound)))
-
     pub specialisers-long : length (modelOf b .specialisers m) ≡ n
     specialisers-long = wellformed-of o .specialiser-places m (h .bound) ∙ sym (h .arity)
 

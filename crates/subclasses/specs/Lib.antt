@@ -2,4 +2,3 @@ pub mod Matrix
 pub mod Ancestry
 pub mod Prepared
 pub mod Places
-pub mod Send

@@ -15,11 +15,6 @@ pub record Arguments (M : Model) (f : ℕ) (args : List ℕ) : Type 0 where
   pub arity : length args ≡ M .arity f
   pub classes : present M args ≡ true
 
--- m is a method, of a function with n arguments
-pub record OfArity (M : Model) (n m : ℕ) : Type 0 where
-  pub bound : m < M .methods
-  pub arity : n ≡ M .arity (M .function m)
-
 -- each class has a row and a column in the matrix
 abbrev pub InMatrix : List ℕ → Type 0
 InMatrix xs = (i : ℕ) → i < length xs → getD xs i 0 < maxClasses

@@ -1,5 +1,4 @@
-// The subclass matrix in the scratch, tuples of classes compared by it, and a send with its tuple.
+// The subclass matrix in the scratch, and tuples of classes compared by it.
 pub mod matrix;
 pub mod places;
-pub mod send;
 pub mod tuple;

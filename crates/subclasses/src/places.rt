@@ -1,19 +1,18 @@
 // Classes compared place by place.
 use crate::matrix::Ancestry;
 use crate::matrix::ancestry_of;
-use crate::tuple::declared_classes;
 use layout::bundle::Bundle;
 use layout::bytes::byte_at;
+use layout::tuple::declared_classes;
 ghost use mathlib.Core.Path.{_≡_};
 ghost use mathlib.Core.Bool.{true};
-ghost use lib.Dec.{eqb};
 ghost use lib.ListN.{length};
-ghost use Rattle.rules.specs.Bounded.{matching};
 ghost use Rattle.rules.specs.Model.{modelOf, present};
 ghost use Rattle.rules.specs.Coverage.{declaredHold};
+ghost use Rattle.layout.specs.Arity.{OfArity};
 ghost use Rattle.subclasses.specs.Prepared.{Prepared};
 ghost use Rattle.subclasses.specs.Matrix.{entriesAt};
-ghost use Rattle.subclasses.specs.Places.{Comparable, OfArity};
+ghost use Rattle.subclasses.specs.Places.{Comparable};
 
 // Whether each class of the one tuple is under the class at its place in the other, by the entries of the scratch.
 pub fn each_under(scratch: &[u8], classes: &[u8], above: &[u8]) -> bool
@@ -30,21 +29,6 @@ pub fn each_under(scratch: &[u8], classes: &[u8], above: &[u8]) -> bool
                 return false;
             }
         }
-    }
-    true
-}
-
-// Whether each class of the one tuple is the same as the class at its place in the other.
-pub fn each_same(classes: &[u8], others: &[u8]) -> bool
-    requires { ⌜ length (now classes) ≡ length (now others) ⌝ }
-    ensures { λ r. ⌜ r ≡ matching eqb (now (classes .entry)) (now (others .entry)) ⌝ }
-{
-    let mut i = 0;
-    while i < classes.len() {
-        if classes[i] != others[i] {
-            return false;
-        }
-        i += 1;
     }
     true
 }

@@ -15,24 +15,21 @@ use Rattle.rules.specs.Coverage as coverage-rules
 use Rattle.rules.specs.Calls.{whenOpen, onOpening, withScratch, checkCall}
 use Rattle.rules.specs.Scratch.{scratchBytes}
 use Rattle.rules.proofs.Coverage.{broken-signature}
-use Rattle.bundle_rules.specs.Opening.{saidOf}
+use Rattle.answers.specs.Opening.{layoutNumber, layoutValues}
 use Rattle.layout.specs.declared.bundle.Bundle.{Bundle}
-use Rattle.bundle_rules.specs.declared.finding.LayoutFinding as layout-type
+use Rattle.answers.specs.declared.opening.LayoutFinding as layout-type
 use Rattle.layout.proofs.Opened.{wellformed-of, counts-of}
 use Rattle.bundle_rules.proofs.Opened.{opened-of}
-use Rattle.calls.specs.declared.witness.CoverageFinding as coverage-type
-use Rattle.calls.specs.declared.witness.CoverageFinding.the-variants as coverage
-use Rattle.calls.specs.declared.check.Finding.the-variants as finding
-use Rattle.calls.specs.declared.check.Verdict as verdict-type
-use Rattle.calls.specs.declared.check.Verdict.the-variants as verdict
-use Rattle.calls.specs.Said.{coverageSaid, verdictSaid}
-use Rattle.preparation.proofs.Called.{layout-refuses}
+use Rattle.answers.specs.declared.finding.Finding.the-variants as finding
+use Rattle.answers.specs.declared.finding.Verdict as verdict-type
+use Rattle.answers.specs.declared.finding.Verdict.the-variants as verdict
+use Rattle.answers.specs.Findings.{coverageSaid, verdictSaid}
 use Rattle.text.specs.declared.listing.ListingAnswer as listing-type
 use Rattle.text.specs.declared.listing.ListingAnswer.the-variants as listing
 use Rattle.lines.specs.Text.{countsLine, verdictLine, listingOn}
 use Rattle.lines.specs.Text as text
-use Rattle.lines.specs.Appended.{Appended}
-use Rattle.lines.specs.Findings.{functionOf, Named, layoutLine}
+use Rattle.lines.specs.Appended.{findingRoom, Appended}
+use Rattle.lines.specs.Findings.{Named, layoutLine}
 use Rattle.text.specs.Listed.{OpenedAs, Composed, Lists, Written}
 use Rattle.lines.proofs.Growing.{grown-both}
 
@@ -44,19 +41,6 @@ many (refuses number values) = length values
 abbrev second : Answer (Unit {0}) → ℕ
 second (gives x) = 0
 second (refuses number values) = getD values 1 0
-
--- a coverage finding comes with five values or more, and the second is the function
-coverage-many : (c : coverage-type.CoverageFinding) → 5 ≤ many (coverageSaid c)
-coverage-many (coverage.Missing s x) = omega arith
-coverage-many (coverage.Ambiguous s x m n) = omega arith
-coverage-many (coverage.Declared s x m) = omega arith
-coverage-many (coverage.Result s x m) = omega arith
-
-coverage-second : (c : coverage-type.CoverageFinding) → functionOf c ≡ second (coverageSaid c)
-coverage-second (coverage.Missing s x) = refl
-coverage-second (coverage.Ambiguous s x m n) = refl
-coverage-second (coverage.Declared s x m) = refl
-coverage-second (coverage.Result s x m) = refl
 
 module _ (M : Model) where
   body-few : (m : ℕ) (t : Typing) → many (bodyRefusal m t) ≤ 2
@@ -83,48 +67,37 @@ module _ (M : Model) where
       rw (q, refusal-second s t (judge M s t) (rw q at h)) (w .sig-function s bound)
 
 module _ {b : List ℕ} {t : Bundle} (o : OpenedAs b t) where
-  -- the check of a bundle that opens, with scratch enough, is the verdict
-  checked : (scratch : ℕ) → scratch ≡ scratchBytes → checkCall b scratch ≡ coverage-rules.verdict (modelOf b)
-  unfolding checkCall withScratch whenOpen onOpening require
-  checked scratch h = rw (sym (o .answer), h) refl
-
-  pub verdict-named : (scratch : ℕ) (r : verdict-type.Verdict) → scratch ≡ scratchBytes → verdictSaid r ≡ checkCall b scratch → Named (t .functions) r
+  pub verdict-named : (r : verdict-type.Verdict) → verdictSaid r ≡ coverage-rules.verdict (modelOf b) → Named (t .functions) r
   unfolding coverage-rules.verdict
-  verdict-named scratch verdict.Accepted h c = tt
-  verdict-named scratch (verdict.Refused (finding.Layout f)) h c = tt
-  verdict-named scratch (verdict.Refused finding.Scratch) h c = tt
-  verdict-named scratch (verdict.Refused (finding.Coverage x)) h c =
+  verdict-named verdict.Accepted c = tt
+  verdict-named (verdict.Refused (finding.Layout f)) c = tt
+  verdict-named (verdict.Refused finding.Scratch) c = tt
+  verdict-named (verdict.Refused (finding.Coverage x)) c =
       let M = modelOf b in
-      let e : coverageSaid x ≡ coverageVerdict M (brokenSignature M) = c ∙ checked scratch h in
-      let there = verdict-second M (wellformed-of (opened-of o)) (brokenSignature M) refl (subst (λ (a : Answer (Unit {0})). 5 ≤ many a) e (coverage-many x)) in
-      omega (arith, there, coverage-second x, ap second e, counts-of (opened-of o) .functions)
-  verdict-named scratch (verdict.Refused (finding.Body x)) h c = tt
+      let e : coverageSaid x ≡ coverageVerdict M (brokenSignature M) = c in
+      let there = verdict-second M (wellformed-of (opened-of o)) (brokenSignature M) refl (subst (λ (a : Answer (Unit {0})). 5 ≤ many a) e (omega arith)) in
+      omega (arith, there, ap second e, counts-of (opened-of o) .functions)
+  verdict-named (verdict.Refused (finding.Body x)) c = tt
 
-  pub composed-opened : (scratch : ℕ) (v : verdict-type.Verdict) (old mid new : List ℕ) (q r : ℕ) → scratch ≡ scratchBytes → verdictSaid v ≡ checkCall b scratch → 512 ≤ length old
+  pub composed-opened : (v : verdict-type.Verdict) (old mid new : List ℕ) (q r : ℕ) → verdictSaid v ≡ coverage-rules.verdict (modelOf b) → 512 ≤ length old
       → Appended 140 old 0 (countsLine (t .classes ∷ t .functions ∷ t .signatures ∷ t .methods ∷ [])) mid q
-      → Appended 268 mid q (verdictLine (modelOf b) (verdictSaid v)) new r → Composed b new r
+      → Appended findingRoom mid q (verdictLine (modelOf b) (verdictSaid v)) new r → Composed b new r
   unfolding text.listing listingOn
-  composed-opened scratch v old mid new q r h c room counts line =
+  composed-opened v old mid new q r c room counts line =
       let M = modelOf b in
       let both = grown-both counts line in
       let head = countsLine (t .classes ∷ t .functions ∷ t .signatures ∷ t .methods ∷ []) in
       record {
         fits = omega (arith, both .bound, both .same, room);
         written =
-            both .text
-            ∙ ap (λ (a : Answer (Unit {0})). head ++ verdictLine M a) (c ∙ checked scratch h)
-            ∙ ap (λ (a : Answer (List ℕ)). listingOn a M) (o .answer);
+            both .text ∙ ap (λ (a : Answer (Unit {0})). head ++ verdictLine M a) c ∙ ap (λ (a : Answer (List ℕ)). listingOn a M) (o .answer);
       }
 
-pub composed-refused : (b : List ℕ) (f : layout-type.LayoutFinding) (old new : List ℕ) (r : ℕ) → saidOf f ≡ opening b → 512 ≤ length old
+pub composed-refused : (b : List ℕ) (f : layout-type.LayoutFinding) (old new : List ℕ) (r : ℕ) → refuses (layoutNumber f) (layoutValues f) ≡ opening b → 512 ≤ length old
     → Appended 76 old 0 (layoutLine (modelOf b) f) new r → Composed b new r
 unfolding text.listing listingOn
 composed-refused b f old new r e room a =
-    let M = modelOf b in
-    record {
-      fits = omega (arith, a .bound, a .same, room);
-      written = a .text ∙ ap (λ (x : Answer (List ℕ)). listingOn x M) (sym (layout-refuses f) ∙ e);
-    }
+    record { fits = omega (arith, a .bound, a .same, room); written = a .text ∙ ap (λ (x : Answer (List ℕ)). listingOn x (modelOf b)) e }
 
 -- A text at the start of an array of its own, and what a lent buffer holds by it: as before where it is too short, else the text with what was behind it.
 module _ (piece own : List ℕ) (r : ℕ) (fits : r ≤ length own) (written : take r own ≡ piece) where

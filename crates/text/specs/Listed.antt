@@ -3,12 +3,16 @@
 use Prim.Native.Nat.{ℕ, _≤_, _<_}
 use mathlib.Core.Path.{_≡_}
 use mathlib.Core.List.{List, [], _∷_, _++_}
+use mathlib.Core.Bool.{cond}
+use lib.Dec.{leb}
 use lib.ListN.{length, take, drop}
-use Rattle.bundle_rules.specs.Opening.{Opens}
+use Rattle.rules.specs.Numbers as numbers
+use Rattle.rules.specs.Layout.{Answer, gives, refuses, require}
+use Rattle.answers.specs.Opening.{Opens}
 use Rattle.layout.specs.declared.bundle.Bundle.{Bundle}
-use Rattle.bundle_rules.specs.declared.finding.Opening.the-variants as answer
+use Rattle.answers.specs.declared.opening.Opening.the-variants as answer
 use Rattle.reply.specs.declared.Reply.{Reply}
-use Rattle.reply.specs.Replies.{numbered}
+use Rattle.reply.specs.Replies.{reply, lineLength}
 use Rattle.text.specs.declared.listing.ListingAnswer as listing-type
 use Rattle.text.specs.declared.listing.ListingAnswer.the-variants as listing
 use Rattle.lines.specs.Text as text
@@ -36,7 +40,19 @@ Told listing.Short = ⊥
 pub record Lists (b old new : List ℕ) (r : listing-type.ListingAnswer) : Type 0 where
   pub written : Written (text.listing b) old new r
 
+-- The listing as a call with a buffer of so many bytes: the length of the text, or 20 where the buffer is shorter.
+unfoldable pub listingCall : List ℕ → ℕ → Answer ℕ
+listingCall b room = require (leb (length (text.listing b)) room) numbers.shortBuffer (gives (length (text.listing b)))
+
+-- the buffer: the text, and behind it what was there; as it was where it is shorter
+unfoldable pub listingAfter : List ℕ → List ℕ → List ℕ
+listingAfter b old = cond (leb (length (text.listing b)) (length old)) (text.listing b ++ drop (length (text.listing b)) old) old
+
+-- what the answer says
+abbrev pub listingSaid : listing-type.ListingAnswer → Answer ℕ
+listingSaid (listing.Written n) = gives n
+listingSaid listing.Short = refuses numbers.shortBuffer []
+
 -- the answer as a reply: the length, or the number of a row that is too short
 abbrev pub listingReply : listing-type.ListingAnswer → Reply
-listingReply (listing.Written n) = numbered 0 (n ∷ [])
-listingReply listing.Short = numbered 20 []
+listingReply r = reply lineLength (listingSaid r)

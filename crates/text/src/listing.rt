@@ -1,15 +1,16 @@
 // The listing of a bundle, in a lent buffer.
-use bundle_rules::finding::Opening;
-use bundle_rules::finding::finding_of;
+use answers::number::SHORT_BUFFER;
+use answers::opening::Opening;
+use bundle_rules::opening::open;
 use bytes::copy;
 use layout::bundle::Bundle;
 use lines::line::counts_line;
 use lines::line::layout_line;
 use lines::line::verdict_line;
-use preparation::opening::open;
 use reply::Reply;
-use sound_runs::check::check;
 use subclasses::matrix::BYTES;
+use subclasses::matrix::fill;
+use verdicts::check::check_in;
 ghost use mathlib.Core.Path.{_≡_};
 ghost use Prim.Native.Nat.{_≤_};
 ghost use lib.ListN.{length};
@@ -29,7 +30,7 @@ impl ListingAnswer {
     {
         match self {
             ListingAnswer::Written(n) => Reply::pair(0, n, 0),
-            ListingAnswer::Short => Reply::pair(20, 0, 0),
+            ListingAnswer::Short => Reply::pair(SHORT_BUFFER, 0, 0),
         }
     }
 }
@@ -55,7 +56,8 @@ fn compose_opened(bundle: &[u8], b: Bundle, text: &mut [u8]) -> usize
     ensures { λ _. ⌜ length (now (text .exit)) ≡ length (now (text .entry)) ⌝ }
 {
     let mut scratch = matrix();
-    let verdict = check(bundle, &mut scratch);
+    fill(bundle, b, &mut scratch);
+    let verdict = check_in(bundle, b, &scratch);
     let at = counts_line(text, b);
     verdict_line(bundle, b, text, at, verdict)
 }
@@ -68,7 +70,7 @@ fn compose(bundle: &[u8], text: &mut [u8]) -> usize
 {
     let opening = open(bundle);
     let Opening::Opened(b) = opening else {
-        return layout_line(text, 0, finding_of(opening));
+        return layout_line(text, 0, opening.finding());
     };
     compose_opened(bundle, b, text)
 }

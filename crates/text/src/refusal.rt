@@ -1,7 +1,13 @@
 // The line of a refused call, as the listing prints refusals.
 use crate::listing::ListingAnswer;
+use answers::number::ABSENT;
+use answers::number::NO_LINE;
+use answers::number::NOT_BINARY;
+use answers::number::SHORT_BUFFER;
+use answers::number::SHORT_LINE;
+use answers::number::SHORT_SCRATCH;
+use answers::refusal::Refusal;
 use bytes::copy;
-use calls::refusal::Refusal;
 use chart_line::line::ChartAnswer;
 use lines::line::layout_line;
 use lines::line::number_line;
@@ -9,7 +15,7 @@ ghost use mathlib.Core.Path.{_≡_};
 ghost use Prim.Native.Nat.{_≤_};
 ghost use lib.ListN.{length};
 ghost use Rattle.rules.specs.Model.{Model};
-ghost use Rattle.calls.specs.Said.{refusalSaid};
+ghost use Rattle.answers.specs.Refusals.{refusalSaid};
 ghost use Rattle.chart_line.specs.Charted.{chartSaid};
 ghost use Rattle.lines.specs.Text.{refusalLine};
 ghost use Rattle.lines.specs.Appended.{Appended};
@@ -22,9 +28,9 @@ fn early_line(text: &mut [u8], refusal: Refusal) -> usize
 {
     match refusal {
         Refusal::Layout(found) => layout_line(text, 0, found),
-        Refusal::Scratch => number_line(text, 0, 19),
-        Refusal::Row => number_line(text, 0, 20),
-        Refusal::Absent => number_line(text, 0, 18),
+        Refusal::Scratch => number_line(text, 0, SHORT_SCRATCH as usize),
+        Refusal::Row => number_line(text, 0, SHORT_BUFFER as usize),
+        Refusal::Absent => number_line(text, 0, ABSENT as usize),
     }
 }
 
@@ -36,9 +42,9 @@ fn compose_line(text: &mut [u8], answer: ChartAnswer) -> usize
     match answer {
         ChartAnswer::Written(_) => 0,
         ChartAnswer::Refused(refusal) => early_line(text, refusal),
-        ChartAnswer::NotBinary => number_line(text, 0, 21),
-        ChartAnswer::NoLine => number_line(text, 0, 22),
-        ChartAnswer::Short => number_line(text, 0, 23),
+        ChartAnswer::NotBinary => number_line(text, 0, NOT_BINARY as usize),
+        ChartAnswer::NoLine => number_line(text, 0, NO_LINE as usize),
+        ChartAnswer::Short => number_line(text, 0, SHORT_LINE as usize),
     }
 }
 

@@ -11,7 +11,7 @@ use lib.ListN.{length, getD, take}
 use lib.Seq.{take-all, take-length}
 use borrow.Author.Tests.{eqb-true}
 use Rattle.rules.specs.Bounded.{upto}
-use Rattle.rules.specs.Layout.{places, maxMethods}
+use Rattle.rules.specs.Layout.{places}
 use Rattle.rules.specs.Model.{Model, Wellformed, modelOf}
 use Rattle.rules.specs.Subclass.{subclass, under}
 use Rattle.rules.specs.Lookup.{found, applies, left, applicableSoFar, asSpecific, lookup}
@@ -23,7 +23,8 @@ use Rattle.layout.specs.Opened.{Opened}
 use Rattle.layout.specs.declared.bundle.Bundle.{Bundle}
 use Rattle.layout.proofs.Opened.{counts-of}
 use Rattle.subclasses.proofs.Asked.{class-below}
-use Rattle.method_sets.specs.Sets.{rowAt, methodAt, SameWithin, classOf, Ordered, Tabled, Member, LedBy}
+use Rattle.method_sets.specs.Sets.{rowAt, SetAt, methodAt, SameWithin, classOf, Ordered, Tabled, Member, LedBy}
+use Rattle.method_sets.proofs.Rows.{told-method}
 use Rattle.tuple_search.specs.declared.question.Question.{Question}
 use Rattle.tuple_search.specs.Questions.{functionOf}
 use Rattle.tuple_search.specs.Search.{Filling}
@@ -34,9 +35,9 @@ same-test true y e = rw (sym e)
 same-test false y e = rw (sym e)
 
 -- a table's answers for a method of the order
-told-of : {M : Model} {stated : Bool} {order table : List ℕ} → Tabled stated M order table → (p k i m : ℕ) → p < places → k < M .classes → i < M .methods
+told-of : {M : Model} → Wellformed M → {stated : Bool} {order table : List ℕ} → Tabled stated M order table → (p k i m : ℕ) → p < places → k < M .classes → i < M .methods
     → methodAt order i ≡ m → inSet table (rowAt p k) i ≡ subclass M k (classOf stated M m p)
-told-of {M} {stated} table p k i m h l q e = table .told p k i h l q ∙ ap (λ (x : ℕ). subclass M k (classOf stated M x p)) e
+told-of {M} w {stated} table p k i m h l q e = told-method w table p k i h l q ∙ ap (λ (x : ℕ). subclass M k (classOf stated M x p)) e
 
 -- the classes of a method's places that a table goes by
 unfoldable pub classesBy : Bool → Model → ℕ → List ℕ
@@ -65,7 +66,7 @@ module _ {M : Model} {q : Question} {place : ℕ} {chosen order set : List ℕ} 
           let (u, e) = keep-mem (left M (functionOf M q) (take place chosen)) (upto (M .methods)) v in
           let (i, n, x, y) = left-member m (upto-below (M .methods) u) e in
           let c = classOf stated M m place in
-          let told = sym (told-of t place a i m h l n x) ∙ same i (omega (arith, w .methods-limit)) y ∙ told-of t place k i m h r n x in
+          let told = sym (told-of w t place a i m h l n x) ∙ same i (omega (arith, w .methods-limit)) y ∙ told-of w t place k i m h r n x in
           subst (λ (c : ℕ). aboveAlike M c a k ≡ true) (class-by stated M m place) (same-test (subclass M a c) (subclass M k c) told)
 
 -- the count of methods, which is no method, may be handed down for any set
@@ -75,12 +76,12 @@ led-none o order admits set n h = absurd (omega (arith, counts-of o .methods))
 -- what leads a set leads the part of it that applies to a class at a place, if it applies too
 pub led-part : {M : Model} → Wellformed M → {order admits : List ℕ} → Tabled false M order admits → (set part : List ℕ) (place k n lead m : ℕ) → place < places → k < M .classes
     → LedBy M order admits set n lead → (m < M .methods → (m ≡ lead) × (subclass M k (getD (M .specialisers lead) place 0) ≡ true))
-    → ((i : ℕ) → i < maxMethods → inSet part 0 i ≡ (inSet set 0 i && inSet admits (rowAt place k) i)) → LedBy M order admits part n m
+    → SetAt part 0 (λ i. inSet set 0 i && inSet admits (rowAt place k) i) → LedBy M order admits part n m
 unfolding classOf
 led-part {M} w {order} {admits} table set part place k n lead m h l led kept e q =
     let (same, applying) = kept q in
     let ((i, x, y, z), above) = led (rw same at q) in
-    let both = ap₂ (λ (a b : Bool). a && b) z (told-of table place k i lead h l x y ∙ applying) in
+    let both = ap₂ (λ (a b : Bool). a && b) z (told-of w table place k i lead h l x y ∙ applying) in
     rw same ((i, x, y, e i (omega (arith, w .methods-limit)) ∙ both), λ p u j v a. above p u j v (and-left (inSet set 0 j) (inSet admits (rowAt place k) j) (sym (e j v) ∙ a)))
 
 -- with every place filled, the methods left are those that apply
@@ -123,5 +124,5 @@ module _ {M : Model} (w : Wellformed M) {q : Question} {chosen order set : List 
           matching-from (subclass M) (M .specialisers m) (M .specialisers n) 0 0 (long m c ∙ sym (long n v))
           (λ p r.
           let inside : p < length chosen = omega (arith, long m c) in
-          sym (told-of table p (getD (M .specialisers m) p 0) i n (omega arith) (class-below M (M .specialisers m) (w .specialisers-present m h) p r) l u)
+          sym (told-of w table p (getD (M .specialisers m) p 0) i n (omega arith) (class-below M (M .specialisers m) (w .specialisers-present m h) p r) l u)
           ∙ led h .1 p inside i (omega (arith, w .methods-limit)) y)

@@ -1,3 +1,4 @@
+pub mod Unfound
 pub mod Leading
 pub mod Narrowing
 pub mod Searching

@@ -12,7 +12,7 @@ use lib.ListN.{length, getD, take, set, length-set}
 use lib.Seq.{take-suc-set, take-length, length-take-le}
 use borrow.Author.Tests.{lt-ltb}
 use Rattle.rules.specs.Bounded.{every}
-use Rattle.rules.specs.Layout.{places, maxMethods}
+use Rattle.rules.specs.Layout.{places}
 use Rattle.rules.specs.Model.{Model, Wellformed, modelOf, present}
 use Rattle.rules.specs.Subclass.{subclass, under}
 use Rattle.rules.specs.Lookup.{left}
@@ -25,7 +25,8 @@ use Rattle.layout.specs.Opened.{Opened}
 use Rattle.layout.specs.declared.bundle.Bundle.{Bundle}
 use Rattle.layout.proofs.Opened.{wellformed-of, counts-of}
 use Rattle.subclasses.specs.Places.{Arguments}
-use Rattle.method_sets.specs.Sets.{rowAt, methodAt, classOf, Ordered, Tabled}
+use Rattle.method_sets.specs.Sets.{rowAt, SetAt, methodAt, methodOf, classOf, Ordered, Tabled}
+use Rattle.method_sets.proofs.Rows.{told-method, of-function}
 use Rattle.tuple_search.specs.declared.question.Question.{Question}
 use Rattle.tuple_search.specs.declared.question.Question.the-variants.{Rule, Finds, FindsOnly}
 use Rattle.tuple_search.specs.Questions.{About, functionOf}
@@ -63,16 +64,19 @@ about-function w (FindsOnly f m) h = h
 module _ {b : List ℕ} {t : Bundle} (o : Opened b t) {q : Question} {order : List ℕ} where
   -- with no place filled all methods of the function are left
   pub filling-none : {f : ℕ} {chosen set₀ : List ℕ} → About (modelOf b) q → f ≡ functionOf (modelOf b) q → length chosen ≡ modelOf b .arity (functionOf (modelOf b) q)
-      → ((i : ℕ) → i < t .methods → inSet set₀ 0 i ≡ eqb (modelOf b .function (methodAt order i)) f) → Filling (modelOf b) q 0 chosen order set₀
+      → SetAt set₀ 0 (methodOf (modelOf b) order f) → Filling (modelOf b) q 0 chosen order set₀
   unfolding present every
-  filling-none h e a m =
-      let counts = counts-of o in
+  filling-none {f} h e a m =
       record {
         about = h;
         arity = a;
         within = omega arith;
         classes = refl;
-        methods = λ i l. m i (omega arith) ∙ ap (eqb (modelOf b .function (methodAt order i))) e ∙ sym (left-none (modelOf b) (functionOf (modelOf b) q) (methodAt order i));
+        methods = λ i l.
+            m i (omega (arith, wellformed-of o .methods-limit))
+            ∙ of-function (modelOf b) order f i l
+            ∙ ap (eqb (modelOf b .function (methodAt order i))) e
+            ∙ sym (left-none (modelOf b) (functionOf (modelOf b) q) (methodAt order i));
       }
 
   module _ {place : ℕ} {chosen set₀ : List ℕ} (g : Filling (modelOf b) q place chosen order set₀) where
@@ -93,7 +97,7 @@ module _ {b : List ℕ} {t : Bundle} (o : Opened b t) {q : Question} {order : Li
 
     -- a place more, with the methods left narrowed
     pub filling-more : {admits : List ℕ} → Ordered (modelOf b) order → Tabled false (modelOf b) order admits → (k : ℕ) {next : List ℕ} → place < length chosen → k < t .classes
-        → ((i : ℕ) → i < maxMethods → inSet next 0 i ≡ (inSet set₀ 0 i && inSet admits (rowAt place k) i))
+        → SetAt next 0 (λ i. inSet set₀ 0 i && inSet admits (rowAt place k) i)
         → Filling (modelOf b) q (place + 1) (set chosen place k) order next
     unfolding classOf
     filling-more d table k {next} h l e =
@@ -106,7 +110,7 @@ module _ {b : List ℕ} {t : Bundle} (o : Opened b t) {q : Question} {order : Li
         λ i r.
         let m = methodAt order i in
         e i (omega (arith, w .methods-limit))
-        ∙ ap₂ (λ (x y : Bool). x && y) (g .methods i r) (table .told place k i (omega (arith, filling-places)) (omega arith) r)
+        ∙ ap₂ (λ (x y : Bool). x && y) (g .methods i r) (told-method w table place k i (omega (arith, filling-places)) (omega arith) r)
         ∙ ap (λ (j : ℕ). left M f (take place chosen) m && subclass M k (getD (M .specialisers m) j 0)) (sym long)
         ∙ left-more M f (take place chosen) k m (λ u. omega (arith, w .specialiser-places m (d .methods i r), ap (M .arity) u, g .arity))
         ∙ ap (λ (xs : List ℕ). left M f xs m) (sym (chosen-more chosen place k h)) in

@@ -8,8 +8,8 @@ use mathlib.Core.Bool.{Bool, true, false}
 use mathlib.Core.Logic.{_⊎_, inl, inr}
 use mathlib.Core.List.{List, [], _∷_, _++_, map, append-nil, append-assoc}
 use mathlib.Core.Option.{Option, none, some, Option·map}
-use lib.ListN.{length, getD, take, drop, set, length-set}
-use lib.Seq.{drop-cons, drop-length, take-set-le}
+use lib.ListN.{length, getD, drop}
+use lib.Seq.{drop-cons, drop-length}
 use Rattle.rules.specs.Bounded.{upto, keep, first}
 use Rattle.rules.specs.Model.{Model}
 use Rattle.rules.specs.Coverage.{candidateClass, concreteUnder, prefixed, tuples}
@@ -123,8 +123,3 @@ search-opens M q place filled upper h =
 -- with every place filled there is none
 pub no-place : (xs : List ℕ) (place : ℕ) → length xs ≡ place → drop place xs ≡ []
 no-place xs place e = ap (λ (i : ℕ). drop i xs) (sym e) ∙ drop-length xs
-
--- a list that a store at a place turns into another is as long, and has its places before that one
-pub restored-kept : (place x : ℕ) (chosen old : List ℕ) → set chosen place x ≡ old → (length chosen ≡ length old) × (take place chosen ≡ take place old)
-restored-kept place x chosen old e =
-    (sym (length-set chosen place x) ∙ ap length e, sym (take-set-le place chosen place x (omega arith)) ∙ ap (take place) e)

@@ -27,8 +27,7 @@ fn is_failure(found: Found) -> bool
 {
     match found {
         Found::Method(_) => false,
-        Found::Missing => true,
-        Found::Ambiguous(_, _) => true,
+        Found::Fails(_) => true,
     }
 }
 
@@ -38,8 +37,7 @@ fn is_method(found: Found, m: usize) -> bool
 {
     match found {
         Found::Method(n) => n == m,
-        Found::Missing => false,
-        Found::Ambiguous(_, _) => false,
+        Found::Fails(_) => false,
     }
 }
 

@@ -21,7 +21,7 @@ use subclasses::matrix::under;
 ghost use mathlib.Core.Path.{_≡_};
 ghost use mathlib.Core.Bool.{false};
 ghost use mathlib.Core.List.{[]};
-ghost use Prim.Native.Nat.{_<_};
+ghost use Prim.Native.Nat.{_-_, _<_, _≤_};
 ghost use lib.ListN.{length, take, drop};
 ghost use Rattle.rules.specs.Model.{modelOf};
 ghost use Rattle.rules.specs.Coverage.{candidateClass};
@@ -76,16 +76,16 @@ fn stops_filled(
     stops_at(bytes, b, scratch, q, chosen, found)
 }
 
-// The search with the places before `place` filled, and the set of the methods that are left: the classes of the next one are tried in number order. A class
-// counts as tried once its search found nothing. A method that leads the set leads each part of it that has the method, and is handed down there. Where the
-// search stops, the tuple is left; else the places are as they were.
+// The search with so many places still to fill, the last ones, and the set of the methods that are left: the classes of the first of these places are tried in
+// number order. A class counts as tried once its search found nothing. A method that leads the set leads each part of it that has the method, and is handed down
+// there. Where the search stops, the tuple is left; else the places are as they were.
 fn search(
     bytes: &[u8],
     b: Bundle,
     scratch: &[u8],
     q: Question,
     upper: &[u8],
-    place: usize,
+    unfilled: usize,
     chosen: &mut [u8],
     order: &[usize; Bundle::METHODS],
     admits: &[u64; TABLE_WORDS],
@@ -96,19 +96,21 @@ fn search(
     requires { ⌜ Prepared (now bytes) b (now scratch) ⌝ }
     requires { ⌜ Tables (modelOf (now bytes)) q (now order) (now admits) (now holds) ⌝ }
     requires { ⌜ Arguments (modelOf (now bytes)) (functionOf (modelOf (now bytes)) q) (now upper) ⌝ }
-    requires { ⌜ Filling (modelOf (now bytes)) q place (now chosen) (now order) (now set) ⌝ }
+    requires { ⌜ unfilled ≤ length (now chosen) ⌝ }
+    requires { ⌜ Filling (modelOf (now bytes)) q (length (now chosen) - unfilled) (now chosen) (now order) (now set) ⌝ }
     requires { ⌜ LedBy (modelOf (now bytes)) (now order) (now admits) (now set) (length (now chosen)) lead ⌝ }
     ensures { λ r. ⌜ length (now (chosen .exit)) ≡ length (now (chosen .entry)) ⌝ }
-    ensures { λ r. ⌜ Ends (modelOf (now (bytes .entry))) q (take place (now (chosen .entry))) (drop place (now (upper .entry))) (now (chosen .entry)) (now (chosen .exit)) r ⌝ }
+    ensures { λ r. ⌜ Ends (modelOf (now (bytes .entry))) q (take (length (now (chosen .entry)) - unfilled) (now (chosen .entry))) (drop (length (now (chosen .entry)) - unfilled) (now (upper .entry))) (now (chosen .entry)) (now (chosen .exit)) r ⌝ }
 {
-    let n = chosen.len();
-    if place == n {
+    if unfilled == 0 {
         return stops_filled(bytes, b, scratch, q, chosen, order, admits, set, lead);
     }
+    let n = chosen.len();
+    let place = n - unfilled;
     let led = lead_of(bytes, b, order, admits, set, n, lead);
     let c = byte_at(upper, place);
     let classes = b.classes;
-    let is_last = place + 1 == n;
+    let is_last = unfilled == 1;
     let before = chosen[place];
     let mut tried = [0usize; Bundle::CLASSES];
     let mut tries = 0;
@@ -132,7 +134,7 @@ fn search(
             scratch,
             q,
             upper,
-            place + 1,
+            unfilled - 1,
             chosen,
             order,
             admits,
@@ -177,7 +179,7 @@ pub fn search_below(
         scratch,
         q,
         upper,
-        0,
+        chosen.len(),
         chosen,
         order,
         admits,

@@ -1,37 +1,22 @@
 -- Twins, place by place: a twin among the methods before, and the bucket that twins share.
 -- Assumes nothing.
-use Prim.Native.Nat.{ℕ, zero, suc, _+_, _<_, _≤_}
+use Prim.Native.Nat.{ℕ, zero, suc, _+_, _<_}
 use native.Mathlib.Omega.{arith}
 use mathlib.Core.Path.{_≡_, sym, ap, _∙_}
-use mathlib.Core.Bool.{true, not, true≢false}
+use mathlib.Core.Bool.{true, not}
 use mathlib.Core.List.{List}
 use lib.Dec.{eqb}
 use lib.ListN.{length, getD}
 use borrow.Author.Tests.{not-true, not-false, eqb-true}
-use Rattle.rules.specs.Bounded.{upto, matching}
+use Rattle.rules.specs.Bounded.{upto}
 use Rattle.rules.specs.Bytes.{byte, word, part}
 use Rattle.rules.specs.Layout.{places, methodAt, functionOf, specialiserTupleOf, twins, twinRule}
-use Rattle.rules.proofs.Lists.{and-left, and-right, any-none, any-from, matching-from, matching-at, upto-below, below-upto}
+use Rattle.rules.proofs.Lists.{and-left, and-right, any-none, any-from, matching-at, upto-below, below-upto}
 use Rattle.rules.proofs.Places.{part-at, part-length}
-use Rattle.rules.proofs.Decides.{Decides, refuted, decides-agree}
+use Rattle.rules.proofs.Decides.{Decides}
 use Rattle.layout.specs.declared.bundle.Bundle.{Bundle}
 use Rattle.layout.specs.Tables.{Placed}
 use Rattle.twin_rule.specs.Chain.{bucketOf}
-
--- two parts of a bundle are alike exactly when they are so at every place
-pub matching-part : (b : List ℕ) (at other n : ℕ) → at + n ≤ length b → other + n ≤ length b
-    → Decides (matching eqb (part b at n) (part b other n)) (λ i. eqb (byte b (at + i)) (byte b (other + i))) n
-matching-part b at other n h k =
-    let xs = part b at n in
-    let ys = part b other n in
-    let same : length xs ≡ length ys = part-length b at n h ∙ sym (part-length b other n k) in
-    let long : length xs ≡ n = part-length b at n h in
-    decides-agree (λ i. eqb (getD xs i 0) (getD ys i 0)) (λ i. eqb (byte b (at + i)) (byte b (other + i))) n
-    (λ i l. rw (part-at b at n i l, part-at b other n i l))
-    (record {
-      holds = λ all. matching-from eqb xs ys 0 0 same (λ i l. all i (omega arith));
-      breaks = λ i l e. refuted (matching eqb xs ys) (λ t. true≢false (sym (matching-at eqb xs ys 0 0 t i (omega arith)) ∙ e));
-    })
 
 -- a twin among the methods before
 pub twin-decides : (b : List ℕ) (m : ℕ) → Decides (twinRule b m) (λ n. not (twins b m n)) m

@@ -10,7 +10,7 @@ use Rattle.rules.specs.Layout.{maxMethods, methodAt, methodCount}
 abbrev pub buckets : ℕ
 buckets = 521
 
--- the bucket of method m: by the first four bytes of its record, which are its function and its specialisers
+-- the bucket of method m: by the first four bytes of its record, which are its function and three specialisers
 unfoldable pub bucketOf : List ℕ → ℕ → ℕ
 bucketOf b m = (word b (methodAt b m) + 65536 * word b (methodAt b m + 2)) % buckets
 

@@ -10,7 +10,7 @@ ghost use Rattle.twin_rule.specs.Chain.{buckets, bucketOf};
 // How many buckets there are. A prime: classes that differ by a power of two then spread over the buckets too.
 pub(crate) const BUCKETS: usize = 521;
 
-// The bucket of method m: the bytes of its function and its specialisers as one number, and of that the remainder.
+// The bucket of method m: the first four bytes of its record, which are its function and three specialisers, as one number, and of that the remainder.
 pub(crate) fn bucket(bytes: &[u8], b: Bundle, m: usize) -> usize
     requires { ⌜ Placed (now bytes) b ⌝ }
     requires { ⌜ m < b .methods ⌝ }

@@ -5,6 +5,10 @@ use crate::row::copy;
 use crate::row::join;
 use crate::row::one_row;
 use crate::send::send_row;
+use answers::number::ABSTRACT_NEW;
+use answers::number::BAD_STACK;
+use answers::number::LOOSE_RESULT;
+use answers::number::NO_LICENCE;
 use layout::bundle::Bundle;
 use layout::field::arity;
 use layout::field::declared;
@@ -68,7 +72,7 @@ fn apply_send(
 {
     let n = arity(bytes, b, f);
     if h < n {
-        return Effect::BreaksBy(14);
+        return Effect::BreaksBy(BAD_STACK);
     }
     let below = h - n;
     let at = ROW_BYTES * below;
@@ -78,7 +82,7 @@ fn apply_send(
         copy(&sent, &mut rows[at..]);
         return Effect::Leaves(left);
     }
-    Effect::BreaksBy(16)
+    Effect::BreaksBy(NO_LICENCE)
 }
 
 // One instruction of method m, on the h types that the rows hold.
@@ -109,7 +113,7 @@ fn apply(
                 class_row(bytes, b, scratch, c, &mut rows[at..]);
                 return Effect::Leaves(left);
             }
-            return Effect::BreaksBy(15);
+            return Effect::BreaksBy(ABSTRACT_NEW);
         }
         Instruction::Send(f) => {
             return apply_send(bytes, b, scratch, f, rows, h);
@@ -125,11 +129,11 @@ fn end(bytes: &[u8], b: Bundle, m: usize, rows: &[u8], h: usize, at: usize) -> T
     ensures { λ r. ⌜ Ended (modelOf (now (bytes .entry))) m at (now (rows .entry)) h r ⌝ }
 {
     if h != 1 {
-        return Typing::Breaks(14, at);
+        return Typing::Breaks(BAD_STACK, at);
     }
     let c = result(bytes, b, m);
     if rows[c] == 0 {
-        return Typing::Breaks(17, at);
+        return Typing::Breaks(LOOSE_RESULT, at);
     }
     Typing::Typed
 }

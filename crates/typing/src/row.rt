@@ -16,7 +16,7 @@ ghost use Rattle.subclasses.specs.Prepared.{Prepared};
 ghost use Rattle.typing.specs.Rows.{typeByte, noByte, sameByte, joinedByte, Rows, classTypes};
 
 // The bytes of a row.
-pub const ROW_BYTES: usize = 128;
+pub const ROW_BYTES: usize = Bundle::CLASSES;
 
 // Makes the row that of the empty type.
 pub(crate) fn clear(row: &mut [u8])
@@ -99,15 +99,15 @@ pub(crate) fn class_rows(bytes: &[u8], b: Bundle, scratch: &[u8], args: &[u8], r
 }
 
 // A row of no type yet.
-pub(crate) fn one_row() -> [u8; 128]
+pub(crate) fn one_row() -> [u8; ROW_BYTES]
     ensures { λ r. ⌜ rowBytes ≡ length r ⌝ }
 {
-    [0; 128]
+    [0; ROW_BYTES]
 }
 
 // A row for each argument that a send may have.
-pub(crate) fn argument_rows() -> [u8; 384]
+pub(crate) fn argument_rows() -> [u8; ROW_BYTES * Bundle::PLACES]
     ensures { λ r. ⌜ rowBytes * places ≡ length r ⌝ }
 {
-    [0; 384]
+    [0; ROW_BYTES * Bundle::PLACES]
 }

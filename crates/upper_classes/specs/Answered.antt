@@ -4,6 +4,7 @@ use Prim.Native.Nat.{ℕ}
 use mathlib.Core.Path.{_≡_}
 use mathlib.Core.Bool.{true}
 use mathlib.Core.List.{List, []}
+use Rattle.rules.specs.Numbers as numbers
 use Rattle.rules.specs.Layout.{Answer, gives, refuses}
 use Rattle.rules.specs.Model.{Model, modelOf}
 use Rattle.rules.specs.Subclass.{under}
@@ -11,7 +12,7 @@ use Rattle.rules.specs.Lookup.{found, lookup}
 use Rattle.rules.specs.Coverage.{Below}
 use Rattle.rules.specs.Calls.{used}
 use Rattle.rules.specs.Rough.{Rough, one, mayFail, several, roughCall, NarrowsTo}
-use Rattle.calls.specs.Said.{refusalSaid}
+use Rattle.answers.specs.Refusals.{refusalSaid}
 use Rattle.upper_classes.specs.declared.answer.RoughAnswer as answer-type
 use Rattle.upper_classes.specs.declared.answer.RoughAnswer.the-variants.{One, MayFail, Several, NoConcrete, Refused}
 
@@ -19,7 +20,7 @@ abbrev pub roughSaid : answer-type.RoughAnswer → Answer Rough
 roughSaid (One m) = gives (one m)
 roughSaid MayFail = gives mayFail
 roughSaid Several = gives several
-roughSaid NoConcrete = refuses 24 []
+roughSaid NoConcrete = refuses numbers.noConcrete []
 roughSaid (Refused r) = refusalSaid r
 
 -- some tuple below the upper classes finds method m

@@ -1,6 +1,7 @@
 // What a send of a function finds where an upper class is known for each argument.
 use crate::least::least_below;
-use calls::refusal::Refusal;
+use answers::refusal::Refusal;
+use answers::send::Send;
 use dispatch::index::index_methods;
 use dispatch::lookup::lookup;
 use dispatch::select::Found;
@@ -9,7 +10,6 @@ use method_sets::order::order_methods;
 use method_sets::sets::TABLE_WORDS;
 use method_sets::table::fill_table;
 use sends::send::classes_of;
-use subclasses::send::Send;
 use tuple_search::question::Question;
 use tuple_search::search::search_below;
 ghost use mathlib.Core.Path.{_≡_};
@@ -20,7 +20,7 @@ ghost use Rattle.rules.specs.Coverage.{tuples, Below};
 ghost use Rattle.rules.specs.Rough.{rough, roughOf, roughIn};
 ghost use Rattle.subclasses.specs.Prepared.{Prepared};
 ghost use Rattle.subclasses.specs.Places.{Arguments};
-ghost use Rattle.subclasses.specs.Send.{tupleOf};
+ghost use Rattle.answers.specs.Send.{tupleOf};
 ghost use Rattle.tuple_search.specs.Questions.{About, functionOf, stopsAt};
 ghost use Rattle.tuple_search.specs.Search.{Tables};
 ghost use Rattle.upper_classes.specs.Answered.{roughSaid, SomeFinds};
@@ -111,8 +111,7 @@ fn given_tuple(
 {
     let index = index_methods(bytes, b);
     match lookup(bytes, b, scratch, &index, f, least) {
-        Found::Missing => RoughAnswer::MayFail,
-        Found::Ambiguous(_, _) => RoughAnswer::MayFail,
+        Found::Fails(_) => RoughAnswer::MayFail,
         Found::Method(m) => given_method(bytes, b, scratch, f, upper, m),
     }
 }

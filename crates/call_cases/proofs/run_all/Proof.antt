@@ -5,24 +5,8 @@ use lib.ListN.{length}
 use Rattle.call_cases.proofs.run_all.Statement.{statement}
 use Rattle.call_cases.proofs.run_all.Tie as tie
 
-abbrev Inv-loop : tie.InvT-loop
-Inv-loop space₀ unwritten₀ matrix₀ scratch₀ tallies₀ turns₀ space unwritten matrix scratch tallies turns = length space ≡ length space₀
-
-abbrev μ-loop : tie.MeasureT-loop
-μ-loop space₀ unwritten₀ matrix₀ scratch₀ tallies₀ turns₀ space unwritten matrix scratch tallies turns = turns
-
 pub run-all-spec : {M : Type 1} → statement M
 run-all-spec =
     tie.close
-    (tie.spec
-    Inv-loop
-    μ-loop
-    (λ c. search needs)
-    (λ c κs. search needs)
-    (λ c. search needs)
-    (λ c. search needs)
-    (λ c. search needs)
-    (λ c. search needs)
-    (λ c. search needs)
-    (λ c. search needs)
-    (λ c. search needs))
+    (tie.spec (λ space₀ unwritten₀ matrix₀ scratch₀ tallies₀ turns₀ space unwritten matrix scratch tallies turns. length space ≡ length space₀) (λ space₀ unwritten₀ matrix₀ scratch₀ tallies₀ turns₀ space unwritten matrix scratch tallies turns. turns)
+    (search needs) (search needs) (search needs) (search needs) (search needs) (search needs) (search needs) (search needs) (search needs))

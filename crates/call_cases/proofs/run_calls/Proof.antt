@@ -3,22 +3,8 @@ use borrow.Author.Needs.{needs}
 use Rattle.call_cases.proofs.run_calls.Statement.{statement}
 use Rattle.call_cases.proofs.run_calls.Tie as tie
 
-abbrev Inv-loop : tie.InvT-loop
-Inv-loop bundle unwritten matrix scratch₀ tallies₀ calls left₀ scratch tallies left = Unit {0}
-
-abbrev μ-loop : tie.MeasureT-loop
-μ-loop bundle unwritten matrix scratch₀ tallies₀ calls left₀ scratch tallies left = left
-
 pub run-calls-spec : {M : Type 1} → statement M
 run-calls-spec =
     tie.close
-    (tie.spec
-    Inv-loop
-    μ-loop
-    (λ c. search needs)
-    (λ c κs. search needs)
-    (λ c. search needs)
-    (λ c. search needs)
-    (λ c. search needs)
-    (λ c. search needs)
-    (λ c. search needs))
+    (tie.spec (λ bundle unwritten matrix scratch₀ tallies₀ calls left₀ scratch tallies left. Unit {0}) (λ bundle unwritten matrix scratch₀ tallies₀ calls left₀ scratch tallies left. left)
+    (search needs) (search needs) (search needs) (search needs) (search needs) (search needs) (search needs))

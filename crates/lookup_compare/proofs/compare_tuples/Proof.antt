@@ -6,29 +6,9 @@ use lib.ListN.{length}
 use Rattle.lookup_compare.proofs.compare_tuples.Statement.{statement}
 use Rattle.lookup_compare.proofs.compare_tuples.Tie as tie
 
-abbrev Inv-loop : tie.InvT-loop
-Inv-loop bundle scratch₀ is-lookup function arity classes step limit totals₀ next₀ scratch totals next = length scratch ≡ length scratch₀
-
-abbrev μ-loop : tie.MeasureT-loop
-μ-loop bundle scratch₀ is-lookup function arity classes step limit totals₀ next₀ scratch totals next = limit - next
-
 pub compare-tuples-spec : {M : Type 1} → statement M
 compare-tuples-spec =
     tie.close
-    (tie.spec
-    Inv-loop
-    μ-loop
-    (λ c κs. search needs)
-    (λ c κs. search needs)
-    (λ c κs. search needs)
-    (λ c. search needs)
-    (λ c. search needs)
-    (λ c κs. search needs)
-    (λ c. search needs)
-    (λ c. search needs)
-    (λ c κs. search needs)
-    (λ c κs. search needs)
-    (λ c. search needs)
-    (λ c. search needs)
-    (λ c. search needs)
-    (λ c. search needs))
+    (tie.spec (λ bundle scratch₀ is-lookup function arity counts₀ classes step limit next₀ scratch counts next. length scratch ≡ length scratch₀) (λ bundle scratch₀ is-lookup function arity counts₀ classes step limit next₀ scratch counts next. limit - next)
+    (search needs) (search needs) (search needs) (search needs) (search needs) (search needs) (search needs) (search needs) (search needs) (search needs)
+    (search needs) (search needs) (search needs) (search needs))

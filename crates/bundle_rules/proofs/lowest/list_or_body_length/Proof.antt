@@ -17,7 +17,7 @@ list-or-body-length-spec =
     (λ c κs. let s = c .before .before .before in let told = c .enum-told4 .given .1 in (s .pre .0, omega (arith, rw told at (s .pre .1))))
     (λ c. search needs)
     (λ c. search needs)
-    (λ c. (rw (c .before .enum-told .given .1) (c .list-length .ensures .0), c .list-length .ensures .1))
+    (λ c. (rw (c .before .enum-told .given .1) (c .parent-count .ensures .0), c .parent-count .ensures .1))
     (λ c. (rw (c .enum-told2 .given .1), search needs))
     (λ c. (rw (c .enum-told3 .given .1), search needs))
     (λ c. (rw (c .before .enum-told4 .given .1) (c .body-length .ensures .0), c .body-length .ensures .1))

@@ -6,7 +6,7 @@ use mathlib.Core.Bool.{true, _&&_}
 use borrow.Author.Tests.{not-true, not-false}
 use Rattle.rules.specs.Layout.{sizeRule, chainRule, wholeRule, limitRule, require, opening}
 use Rattle.rules.proofs.Lists.{and-left}
-use Rattle.bundle_rules.specs.Opening.{openingBy}
+use Rattle.bundle_rules.specs.Rules.{openingBy}
 use Rattle.layout.proofs.Within.{long, within}
 use Rattle.bundle_rules.proofs.opening.open.Statement.{statement}
 use Rattle.bundle_rules.proofs.opening.open.Tie as tie

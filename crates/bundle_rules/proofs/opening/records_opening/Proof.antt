@@ -6,7 +6,7 @@ use native.Mathlib.Omega.{arith}
 use lib.ListN.{length}
 use mathlib.Core.Path.{sym}
 use borrow.Author.Count.{below-none, below-more}
-use Rattle.bundle_rules.specs.Opening.{order}
+use Rattle.bundle_rules.specs.Rules.{order}
 use Rattle.bundle_rules.proofs.Order.{Kept, first-broken, none-broken, answered, presumed}
 use Rattle.bundle_rules.proofs.opening.records_opening.Statement.{statement}
 use Rattle.bundle_rules.proofs.opening.records_opening.Tie as tie

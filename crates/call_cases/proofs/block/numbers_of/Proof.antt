@@ -4,30 +4,9 @@ use Prim.Native.Nat.{_-_}
 use Rattle.call_cases.proofs.block.numbers_of.Statement.{statement}
 use Rattle.call_cases.proofs.block.numbers_of.Tie as tie
 
-abbrev Inv-loop : tie.InvT-loop
-Inv-loop bytes len numbers₀ k₀ i₀ numbers k i = Unit {0}
-
-abbrev μ-loop : tie.MeasureT-loop
-μ-loop bytes len numbers₀ k₀ i₀ numbers k i = len - i
-
 pub numbers-of-spec : {M : Type 1} → statement M
 numbers-of-spec =
     tie.close
-    (tie.spec
-    Inv-loop
-    μ-loop
-    (λ c. search needs)
-    (λ c. search needs)
-    (λ c. search needs)
-    (λ c κs. search needs)
-    (λ c. search needs)
-    (λ c. search needs)
-    (λ c. search needs)
-    (λ c. search needs)
-    (λ c. search needs)
-    (λ c. search needs)
-    (λ c. search needs)
-    (λ c. search needs)
-    (λ c. search needs)
-    (λ c. search needs)
-    (λ c. search needs))
+    (tie.spec (λ bytes len numbers₀ k₀ i₀ numbers k i. Unit {0}) (λ bytes len numbers₀ k₀ i₀ numbers k i. len - i)
+    (search needs) (search needs) (search needs) (search needs) (search needs) (search needs) (search needs) (search needs) (search needs) (search needs)
+    (search needs) (search needs) (search needs) (search needs))

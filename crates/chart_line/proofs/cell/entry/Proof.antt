@@ -13,16 +13,11 @@ told : (x y : Found) → x ≡ y → entry (foundOf y) ≡ entry (foundOf x)
 told x y e = rw e
 
 returns : tie.Need-returns
-unfolding entry foundOf
+unfolding entry
 returns c = c .number .ensures ∙ told _ _ (c .before .before .found .given .1)
 
 returns-2 : tie.Need-returns-2
-unfolding entry foundOf
-returns-2 c = told _ _ (c .enum-told .given .1)
-
-returns-3 : tie.Need-returns-3
-unfolding entry foundOf
-returns-3 c = told _ _ (c .enum-told2 .given .1)
+returns-2 c = c .unfound .ensures ∙ told _ _ (c .before .before .found2 .given .1)
 
 pub entry-spec : {M : Type 1} → statement M
-entry-spec = tie.close (tie.spec (λ c. search needs) (λ c κs. search needs) (λ c. search needs) (λ c. search needs) returns returns-2 returns-3)
+entry-spec = tie.close (tie.spec (λ c. search needs) (λ c κs. search needs) (λ c. search needs) (λ c κs. search needs) returns returns-2)

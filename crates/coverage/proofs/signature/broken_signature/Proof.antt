@@ -9,8 +9,9 @@ use borrow.Author.Needs.{needs}
 use Rattle.rules.specs.Model.{modelOf}
 use Rattle.rules.specs.Coverage.{brokenTuple, isSome}
 use Rattle.layout.proofs.Opened.{wellformed-of, counts-of}
-use Rattle.coverage.specs.Violations.{coverageOf}
-use Rattle.coverage.proofs.Violations.{signature-holds, signature-implied, signature-breaks, signatures-hold}
+use Rattle.answers.specs.Findings.{verdictSaid}
+use Rattle.method_sets.proofs.Rows.{tabled-none}
+use Rattle.coverage.proofs.Signatures.{signature-holds, signature-implied, signature-breaks, signatures-hold}
 use Rattle.coverage.proofs.signature.broken_signature.Statement.{statement}
 use Rattle.coverage.proofs.signature.broken_signature.Tie as tie
 
@@ -26,22 +27,19 @@ loop-again c =
     (omega arith, below-more _ _ (l .loop .inv .1) (signature-implied _ (wellformed-of (l .before .before .before .before .before .before .before .before .before .before .pre .opened)) (l .loop .s) (l .loop .inv .1) (sym (c .before .implied .ensures) ∙ c .if1 .taken)))
 
 loop-again-2 : tie.Need-loop-again-2 Inv-loop μ-loop
-unfolding coverageOf
 loop-again-2 c =
     let u = c .before .before in
     let l = u .before .before .before .before .before .before .before .loop in
-    (omega arith, below-more _ _ (l .inv .1) (signature-holds _ (l .s) (sym (ap coverageOf (c .enum-told .given .1)) ∙ u .broken-tuple .ensures)))
+    (omega arith, below-more _ _ (l .inv .1) (signature-holds _ (l .s) (sym (ap verdictSaid (c .enum-told .given .1)) ∙ u .broken-tuple .ensures)))
 
 returns : tie.Need-returns Inv-loop μ-loop
-unfolding coverageOf
 returns c =
     let u = c .before .before .before in
     let l = u .before .before .before .before .before .before .before in
     let counts = counts-of (l .before .before .before .before .before .before .before .before .before .before .pre .opened) in
-    signature-breaks _ (l .loop .s) _ (omega arith) (l .loop .inv .1) (sym (ap coverageOf (c .before .at .given .1)) ∙ u .broken-tuple .ensures)
+    signature-breaks _ (l .loop .s) _ _ (omega arith) (l .loop .inv .1) (sym (ap verdictSaid (c .before .found .given .1)) ∙ u .broken-tuple .ensures)
 
 returns-2 : tie.Need-returns-2 Inv-loop μ-loop
-unfolding coverageOf
 returns-2 c =
     let l = c .before in
     let counts = counts-of (l .before .before .before .before .before .before .before .before .before .before .pre .opened) in
@@ -66,8 +64,8 @@ broken-signature-spec =
     Inv-loop
     μ-loop
     (λ c κs. search needs)
-    (λ c κs. (c .before .before .before .before .before .pre, c .before .before .order-methods .ensures))
-    (λ c κs. (c .before .before .before .before .before .before .before .before .pre, c .before .before .before .before .before .order-methods .ensures))
+    (λ c κs. (c .before .before .before .before .before .pre, (c .before .before .order-methods .ensures, tabled-none _ _ _)))
+    (λ c κs. (c .before .before .before .before .before .before .before .before .pre, (c .before .before .before .before .before .order-methods .ensures, tabled-none _ _ _)))
     (λ c. (omega arith, below-none _))
     (λ c. omega arith)
     (λ c κs. (c .before .before .before .before .before .before .before .before .before .before .before .pre, omega arith))

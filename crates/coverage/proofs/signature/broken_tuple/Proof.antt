@@ -12,8 +12,7 @@ use borrow.Author.Tests.{not-true, not-false}
 use Rattle.rules.specs.Model.{modelOf}
 use Rattle.layout.proofs.Opened.{counts-of, wellformed-of}
 use Rattle.tuple_search.proofs.Searching.{passed-through, stopped-at}
-use Rattle.coverage.specs.Violations.{coverageOf}
-use Rattle.coverage.proofs.Violations.{stop-broken, tuple-none, signature-arguments}
+use Rattle.coverage.proofs.Signatures.{stop-broken, tuple-none, signature-arguments}
 use Rattle.coverage.proofs.signature.broken_tuple.Statement.{statement}
 use Rattle.coverage.proofs.signature.broken_tuple.Tie as tie
 
@@ -32,7 +31,7 @@ search-below-requires c κs =
     let h : s .args .s < modelOf (s .args .bytes .now) .signatures = omega (arith, p .1 .0) in
     let n = c .before .before .arity .ensures in
     let f = c .before .before .before .sig-function .ensures .0 in
-    let classes = c .before .signature-classes .ensures in (
+    let classes = c .before .signature-classes .ensures .1 in (
       p .0,
       (
         p .1 .1,
@@ -47,10 +46,9 @@ search-below-requires c κs =
     )
 
 returns : tie.Need-returns
-unfolding coverageOf
 returns c =
     let u = c .before .before in
-    let none = passed-through _ _ _ _ _ _ (u .search-below .result) (rw (u .before .before .signature-classes .ensures) at (u .search-below .ensures .1)) (not-true _ (c .if1 .taken)) .0 in
+    let none = passed-through _ _ _ _ _ _ (u .search-below .result) (rw (u .before .before .signature-classes .ensures .1) at (u .search-below .ensures .1)) (not-true _ (c .if1 .taken)) .0 in
     tuple-none _ _ (sym (stop-broken _ _) ∙ none)
 
 -- the tuple that the search leaves is as long as the function has arguments
@@ -71,7 +69,7 @@ broken-by-requires c κs =
     let u = e .before .before in
     let p = u .before .before .before .before .before .before .before .pre in
     let same = take-at (u .search-below .last .1 .1 .1 .1 .1 .0) _ _ (long u) in
-    let (t, q, g) = stopped-at _ _ _ _ _ _ (u .search-below .result) (rw (u .before .before .signature-classes .ensures) at (u .search-below .ensures .1)) (not-false _ (e .if1 .left)) in
+    let (t, q, g) = stopped-at _ _ _ _ _ _ (u .search-below .result) (rw (u .before .before .signature-classes .ensures .1) at (u .search-below .ensures .1)) (not-false _ (e .if1 .left)) in
     (p .0, (p .1 .0, (u .before .before .before .before .sig-function .ensures .0, sym (stop-broken _ _) ∙ q ∙ ap (λ (xs : List ℕ). some xs) (sym g ∙ sym same))))
 
 pub broken-tuple-spec : {M : Type 1} → statement M

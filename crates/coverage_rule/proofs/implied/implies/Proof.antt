@@ -73,7 +73,7 @@ each-under-requires c κs =
     let s = c .before .before .before in
     let start = s .before .before .before .before .before in
     let k = classes s in
-    comparable (start .pre .0) (k .0) (k .1) (c .before .signature-classes .ensures) (c .signature-classes2 .ensures) (k .2)
+    comparable (start .pre .0) (k .0) (k .1) (c .before .signature-classes .ensures .1) (c .signature-classes2 .ensures .1) (k .2)
 
 -- whether the earlier signature covers what the later one covers
 met : (c : tie.After-each-under)
@@ -84,7 +84,7 @@ met c =
     let s = c .before in
     let e = s .before .before .before in
     let k = classes e in
-    compared (e .before .before .before .before .before .pre .0) (k .0) (k .1) (s .before .signature-classes .ensures) (s .signature-classes2 .ensures) (c .each-under .ensures)
+    compared (e .before .before .before .before .before .pre .0) (k .0) (k .1) (s .before .signature-classes .ensures .1) (s .signature-classes2 .ensures .1) (c .each-under .ensures)
 
 returns : tie.Need-returns
 returns c =

@@ -2,41 +2,16 @@
 -- Assumes nothing.
 use borrow.Author.Needs.{needs}
 use Rattle.rules.specs.Coverage.{failing}
-use Rattle.coverage_rule.specs.Judgements.{judgementOf}
 use Rattle.coverage_rule.proofs.judge.fails.Statement.{statement}
 use Rattle.coverage_rule.proofs.judge.fails.Tie as tie
 
 returns : tie.Need-returns
-unfolding judgementOf failing
+unfolding failing
 returns c = rw (c .enum-told .given .1)
 
 returns-2 : tie.Need-returns-2
-unfolding judgementOf failing
+unfolding failing
 returns-2 c = rw (c .enum-told2 .given .1)
 
-returns-3 : tie.Need-returns-3
-unfolding judgementOf failing
-returns-3 c = rw (c .enum-told3 .given .1)
-
-returns-4 : tie.Need-returns-4
-unfolding judgementOf failing
-returns-4 c = rw (c .enum-told4 .given .1)
-
-returns-5 : tie.Need-returns-5
-unfolding judgementOf failing
-returns-5 c = rw (c .enum-told5 .given .1)
-
 pub fails-spec : {M : Type 1} → statement M
-fails-spec =
-    tie.close
-    (tie.spec
-    (λ c. search needs)
-    (λ c. search needs)
-    (λ c. search needs)
-    (λ c. search needs)
-    (λ c. search needs)
-    returns
-    returns-2
-    returns-3
-    returns-4
-    returns-5)
+fails-spec = tie.close (tie.spec (λ c. search needs) (λ c. search needs) returns returns-2)

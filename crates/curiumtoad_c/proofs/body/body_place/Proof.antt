@@ -3,8 +3,7 @@
 use borrow.Author.Needs.{needs}
 use mathlib.Core.Path.{sym, _∙_}
 use Rattle.bundle_rules.proofs.Opened.{opened-of}
-use Rattle.method_code.proofs.Viewed.{view-refused, view-absent, view-given}
-use Rattle.reply.proofs.Replies.{layout-reply}
+use Rattle.curiumtoad.proofs.Viewed.{view-refused, view-absent, view-given}
 use Rattle.curiumtoad_c.proofs.Placing.{span-reply}
 use Rattle.curiumtoad_c.proofs.body.body_place.Statement.{statement}
 use Rattle.curiumtoad_c.proofs.body.body_place.Tie as tie
@@ -16,7 +15,7 @@ returns c =
     let g = o .before .before in
     let f = t .enum-told .given .0 .0 in
     rw (view-refused (g .args .bundle .now) (g .args .method) f (rw (t .enum-told .given .1) at (o .«open» .ensures .1)))
-    (rw (t .enum-told .given .1) at (c .of-opening .ensures) ∙ sym (layout-reply f))
+    (rw (t .enum-told .given .1) at (c .of-opening .ensures))
 
 returns-2 : tie.Need-returns-2
 returns-2 c =

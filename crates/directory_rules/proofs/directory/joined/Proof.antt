@@ -8,17 +8,17 @@ use mathlib.Core.Path.{_≡_, sym}
 use mathlib.Core.Bool.{true}
 use borrow.Author.Count.{below-none, below-more}
 use borrow.Author.Tests.{eq-eqb, ne-eqb}
-use Rattle.rules.specs.Layout.{offset, extent, sectionEnd}
+use Rattle.rules.specs.Layout.{codeSection, offset, extent, sectionEnd}
 use Rattle.directory_rules.specs.Directory.{nextRule}
 use Rattle.rules.proofs.Decides.{every-upto}
 use Rattle.directory_rules.proofs.directory.joined.Statement.{statement}
 use Rattle.directory_rules.proofs.directory.joined.Tie as tie
 
 abbrev Inv-loop : tie.InvT-loop
-Inv-loop bytes k₀ k = (k ≤ 5) × ((j : ℕ) → j < k → nextRule bytes j ≡ true)
+Inv-loop bytes k₀ k = (k ≤ codeSection) × ((j : ℕ) → j < k → nextRule bytes j ≡ true)
 
 abbrev μ-loop : tie.MeasureT-loop
-μ-loop bytes k₀ k = 5 - k
+μ-loop bytes k₀ k = codeSection - k
 
 returns : tie.Need-returns Inv-loop μ-loop
 unfolding sectionEnd
@@ -27,7 +27,7 @@ returns c =
     let b = s .before .before .before .args .bytes .now in
     let k = s .before .loop .k in
     sym
-    (every-upto (nextRule b) 5 .breaks k (search needs)
+    (every-upto (nextRule b) codeSection .breaks k (search needs)
     (ne-eqb (offset b (suc k)) (offset b k + extent b k) (λ q. c .if1 .taken (cc (add-one k)))))
 
 loop-again : tie.Need-loop-again Inv-loop μ-loop
@@ -42,7 +42,7 @@ returns-2 : tie.Need-returns-2 Inv-loop μ-loop
 returns-2 c =
     let s = c .before in
     let b = s .before .before .args .bytes .now in
-    sym (every-upto (nextRule b) 5 .holds (λ j l. s .loop .inv .1 j (omega arith)))
+    sym (every-upto (nextRule b) codeSection .holds (λ j l. s .loop .inv .1 j (omega arith)))
 
 pub joined-spec : {M : Type 1} → statement M
 joined-spec =

@@ -9,8 +9,4 @@ use Rattle.directory_rules.proofs.limits.size_holds.Tie as tie
 
 pub size-holds-spec : {M : Type 1} → statement M
 unfolding sizeRule
-size-holds-spec =
-    tie.close
-    (tie.spec
-    (λ c. rw (lt-leb 24 (length (c .before .args .bytes .now)) (omega arith)))
-    (λ c. rw (le-leb 24 (length (c .before .args .bytes .now)) (omega arith))))
+size-holds-spec = tie.close (tie.spec (λ c. rw (lt-leb 24 (length (c .before .args .bytes .now)) (omega arith))) (λ c. rw (le-leb 24 (length (c .before .args .bytes .now)) (omega arith))))

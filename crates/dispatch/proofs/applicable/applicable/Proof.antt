@@ -9,7 +9,7 @@ use Rattle.rules.specs.Layout.{maxFunctions, maxMethods}
 use Rattle.rules.specs.Model.{modelOf}
 use Rattle.rules.specs.Lookup.{applicable}
 use Rattle.layout.proofs.Opened.{wellformed-of, counts-of}
-use Rattle.subclasses.proofs.Asked.{of-arity}
+use Rattle.layout.proofs.Tuples.{of-arity}
 use Rattle.dispatch.proofs.Kept.{upto-all}
 use Rattle.dispatch.proofs.Indexed.{indexed-of, Walking, walk-begins, walk-rises, walk-miss, walk-hit}
 use Rattle.dispatch.proofs.applicable.applicable.Statement.{statement}

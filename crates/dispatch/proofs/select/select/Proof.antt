@@ -14,7 +14,6 @@ use Rattle.rules.specs.Lookup as rules
 use Rattle.rules.proofs.Lists.{or-left, or-right, or-none, getD-mem, none-places, every-places, every-broken}
 use Rattle.rules.proofs.Selection.{leading-selected}
 use Rattle.layout.proofs.Opened.{wellformed-of}
-use Rattle.dispatch.specs.Found.{foundOf}
 use Rattle.dispatch.proofs.Listed.{each-method, candidate-at, candidate-fits, empty-selected}
 use Rattle.dispatch.proofs.Rivals.{Unled, last-there, next-there, both-named}
 use Rattle.dispatch.proofs.select.select.Statement.{statement}
@@ -37,7 +36,6 @@ abbrev μ-candidates : tie.MeasureT-candidates
 μ-candidates bytes b scratch f n list at₀ next₀ at next = length list + 1 - next
 
 returns : tie.Need-returns Inv-loop μ-loop Inv-candidates μ-candidates
-unfolding foundOf
 returns c = sym (empty-selected _ _ (c .if1 .taken))
 
 candidates-holds : tie.Need-candidates-holds Inv-loop μ-loop Inv-candidates μ-candidates
@@ -77,7 +75,7 @@ loop-again-2 c =
     )
 
 returns-2 : tie.Need-returns-2 Inv-loop μ-loop Inv-candidates μ-candidates
-unfolding foundOf rules.leads
+unfolding rules.leads
 returns-2 c =
     let q = c .before .before .before in
     let start = q .before .before .before .before .before .before .before in
@@ -125,7 +123,6 @@ next-fits c =
     omega (arith, candidate-fits (p .0) (p .1) (c .before .last-rival2 .result) (omega (arith, within, c .before .last-rival2 .ensures .within)))
 
 returns-3 : tie.Need-returns-3 Inv-loop μ-loop Inv-candidates μ-candidates
-unfolding foundOf
 returns-3 c =
     let last = c .before .before .before in
     both-named (unled (last .before)) (last .last-rival .ensures) (c .before .last-rival2 .ensures)

@@ -13,7 +13,7 @@ use Rattle.frames.proofs.stack.pop.Tie as tie
 padded-tuple-requires : tie.Need-padded-tuple-requires
 padded-tuple-requires c κs =
     let a = c .before .before .before .before .args in
-    rw (c .part .ensures) (omega (arith, part-length (a .values .now) (stackAt (a .k) + (heightAt (a .frames .now) (a .k) - a .n)) (a .n) (omega arith)))
+    rw (c .part .ensures .1) (omega (arith, part-length (a .values .now) (stackAt (a .k) + (heightAt (a .frames .now) (a .k) - a .n)) (a .n) (omega arith)))
 
 pub pop-spec : {M : Type 1} → statement M
 pop-spec =
@@ -34,4 +34,4 @@ pop-spec =
     (λ c κs. search needs)
     padded-tuple-requires
     (λ c. search needs)
-    (λ c. (c .padded-tuple .ensures ∙ ap padded (c .before .part .ensures), refl)))
+    (λ c. (c .padded-tuple .ensures ∙ ap padded (c .before .part .ensures .1), refl)))

@@ -5,5 +5,4 @@ use Rattle.layout.proofs.bundle.counted.Statement.{statement}
 use Rattle.layout.proofs.bundle.counted.Tie as tie
 
 pub counted-spec : {M : Type 1} → statement M
-counted-spec =
-    tie.close (tie.spec (λ c κs. search needs) (λ c κs. search needs) (λ c. search needs) (λ c. record { place = search needs; records = rw (c .section-len .ensures .0) }))
+counted-spec = tie.close (tie.spec (λ c κs. search needs) (λ c κs. search needs) (λ c. search needs) (λ c. record { place = search needs; records = rw (c .section-len .ensures .0) }))

@@ -7,6 +7,4 @@ use Rattle.layout.proofs.bytes.word_at.Tie as tie
 
 pub word-at-spec : {M : Type 1} → statement M
 unfolding word
-word-at-spec =
-    tie.close
-    (tie.spec (λ c κs. search needs) (λ c. search needs) (λ c κs. search needs) (λ c. search needs) (λ c. search needs) (λ c. search needs))
+word-at-spec = tie.close (tie.spec (λ c κs. search needs) (λ c. search needs) (λ c κs. search needs) (λ c. search needs) (λ c. search needs) (λ c. search needs))

@@ -10,7 +10,7 @@ returns : tie.Need-returns
 returns c =
     let s = c .before .before in
     let o = s .pre .0 in
-    let same = c .list-length .ensures .0 in
+    let same = c .parent-count .ensures .0 in
     let counted = parents-counted o (s .args .c) (s .pre .1) in
     (cc, omega (arith, parents-few o (s .args .c) (s .pre .1), placed-of o))
 

@@ -6,12 +6,6 @@ use Rattle.layout.proofs.Opened.{placed-of, counts-of, wellformed-of}
 use Rattle.layout.proofs.field.result.Statement.{statement}
 use Rattle.layout.proofs.field.result.Tie as tie
 
-returns : tie.Need-returns
-unfolding modelOf
-returns c =
-    let s = c .before .before in
-    let counts = counts-of (s .pre .0) in
-    (c .method-result .ensures, omega (arith, wellformed-of (s .pre .0) .result-present (s .args .m) (omega arith)))
-
 pub result-spec : {M : Type 1} → statement M
-result-spec = tie.close (tie.spec (λ c κs. let s = c .before in (placed-of (s .pre .0), s .pre .1)) returns)
+unfolding modelOf
+result-spec = tie.close (tie.spec (λ c κs. let s = c .before in (placed-of (s .pre .0), s .pre .1)) (λ c. let s = c .before .before in let counts = counts-of (s .pre .0) in (c .result .ensures, omega (arith, wellformed-of (s .pre .0) .result-present (s .args .m) (omega arith)))))

@@ -7,10 +7,7 @@ use Rattle.layout.proofs.field.sig_arg.Statement.{statement}
 use Rattle.layout.proofs.field.sig_arg.Tie as tie
 
 returns : tie.Need-returns
-returns c =
-    let d = c .before in
-    let s = d .before .before in
-    rw (c .byte-at .ensures .0, d .signature-record .ensures .0) (sig-arg-read (s .pre .0) (s .args .s) (s .args .place) (s .pre .1 .0) (s .pre .1 .1))
+returns c = let d = c .before in let s = d .before .before in rw (c .byte-at .ensures .0, d .sig-tuple-at .ensures .0) (sig-arg-read (s .pre .0) (s .args .s) (s .args .place) (s .pre .1 .0) (s .pre .1 .1))
 
 pub sig-arg-spec : {M : Type 1} → statement M
-sig-arg-spec = tie.close (tie.spec (λ c κs. let s = c .before in (placed-of (s .pre .0), s .pre .1 .0)) (λ c. search needs) (λ c. search needs) (λ c κs. search needs) returns)
+sig-arg-spec = tie.close (tie.spec (λ c κs. let s = c .before in (placed-of (s .pre .0), s .pre .1 .0)) (λ c. search needs) (λ c κs. search needs) returns)

@@ -6,12 +6,6 @@ use Rattle.layout.proofs.Opened.{placed-of, counts-of, wellformed-of}
 use Rattle.layout.proofs.field.sig_result.Statement.{statement}
 use Rattle.layout.proofs.field.sig_result.Tie as tie
 
-returns : tie.Need-returns
-unfolding modelOf
-returns c =
-    let s = c .before .before in
-    let counts = counts-of (s .pre .0) in
-    (c .signature-result .ensures, omega (arith, wellformed-of (s .pre .0) .sig-result (s .args .s) (omega arith)))
-
 pub sig-result-spec : {M : Type 1} → statement M
-sig-result-spec = tie.close (tie.spec (λ c κs. let s = c .before in (placed-of (s .pre .0), s .pre .1)) returns)
+unfolding modelOf
+sig-result-spec = tie.close (tie.spec (λ c κs. let s = c .before in (placed-of (s .pre .0), s .pre .1)) (λ c. let s = c .before .before in let counts = counts-of (s .pre .0) in (c .sig-result .ensures, omega (arith, wellformed-of (s .pre .0) .sig-result (s .args .s) (omega arith)))))

@@ -1,29 +1,36 @@
--- `layout::instruction::decoded` meets its contract: the tests that failed or passed on the way choose the case of `decode`.
+-- `layout::instruction::decoded` meets its contract: a case of the match for each of `decode`.
 -- Assumes nothing.
-use Prim.Native.Nat.{ℕ, zero, suc}
+use Prim.Native.Nat.{ℕ, zero, suc, _<_}
+use native.Mathlib.Omega.{arith}
 use mathlib.Core.Path.{_≡_, refl}
-use Rattle.rules.specs.Model.{send, decode}
+use Rattle.rules.specs.Layout.{places}
+use Rattle.rules.specs.Model.{arg, decode}
 use Rattle.layout.specs.Instruction.{instr}
 use Rattle.layout.proofs.instruction.decoded.Statement.{statement}
 use Rattle.layout.proofs.instruction.decoded.Tie as tie
 
-decode-other : (operation operand : ℕ) → (operation ≡ 0 → ⊥) → (operation ≡ 1 → ⊥) → send operand ≡ decode operation operand
+decode-other : (operation operand : ℕ) → 2 < operation → arg places ≡ decode operation operand
 unfolding decode
-decode-other zero operand h k = absurd (h refl)
-decode-other (suc zero) operand h k = absurd (k refl)
-decode-other (suc (suc n)) operand h k = refl
+decode-other zero operand h = absurd (omega arith)
+decode-other (suc zero) operand h = absurd (omega arith)
+decode-other (suc (suc zero)) operand h = absurd (omega arith)
+decode-other (suc (suc (suc n))) operand h = refl
 
 returns : tie.Need-returns
 unfolding instr decode
-returns c = rw (c .if1 .taken)
+returns c = let is : c .before .args .operation ≡ 0 = omega arith in rw is
 
 returns-2 : tie.Need-returns-2
 unfolding instr decode
-returns-2 c = rw (c .if2 .taken)
+returns-2 c = let is : c .before .args .operation ≡ 1 = omega arith in rw is
 
 returns-3 : tie.Need-returns-3
+unfolding instr decode
+returns-3 c = let is : c .before .args .operation ≡ 2 = omega arith in rw is
+
+returns-4 : tie.Need-returns-4
 unfolding instr
-returns-3 c = let s = c .before .before in decode-other (s .args .operation) (s .args .operand) (c .before .if1 .left) (c .if2 .left)
+returns-4 c = decode-other (c .before .args .operation) (c .before .args .operand) (omega arith)
 
 pub decoded-spec : {M : Type 1} → statement M
-decoded-spec = tie.close (tie.spec returns returns-2 returns-3)
+decoded-spec = tie.close (tie.spec returns returns-2 returns-3 returns-4)

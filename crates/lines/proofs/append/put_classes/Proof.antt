@@ -5,7 +5,7 @@ use native.Mathlib.Omega.{arith}
 use mathlib.Core.Path.{_≡_, ap}
 use lib.ListN.{take}
 use Rattle.lines.specs.Text.{classes}
-use Rattle.lines.specs.Appended.{Appended}
+use Rattle.lines.specs.Appended.{classesRoom, Appended}
 use Rattle.lines.proofs.Growing.{grown-none, grown-both, grown-wider, grown-as, classes-more}
 use Rattle.lines.proofs.append.put_classes.Statement.{statement}
 use Rattle.lines.proofs.append.put_classes.Tie as tie
@@ -41,7 +41,7 @@ returns c =
     let l = c .before .loop in
     let s = c .before .before .before .before in
     let e : l .i ≡ s .args .n = omega (arith, l .inv .0) in
-    grown-as (ap (λ (k : ℕ). classes (take k (s .args .args .now))) e) (grown-wider 96 (omega (arith, s .pre .0, l .inv .0)) (l .inv .1))
+    grown-as (ap (λ (k : ℕ). classes (take k (s .args .args .now))) e) (grown-wider classesRoom (omega (arith, s .pre .0, l .inv .0)) (l .inv .1))
 
 pub put-classes-spec : {M : Type 1} → statement M
 put-classes-spec =

@@ -3,10 +3,11 @@
 use native.Mathlib.Omega.{arith}
 use mathlib.Core.Path.{sym, ap, subst}
 use Rattle.rules.specs.Model.{modelOf}
-use Rattle.calls.specs.declared.check.Finding as finding-type
-use Rattle.calls.specs.Said.{verdictSaid}
+use Rattle.answers.specs.declared.finding.Finding as finding-type
+use Rattle.answers.specs.Findings.{verdictSaid}
 use Rattle.lines.specs.Text.{verdictLine}
 use Rattle.lines.specs.Findings.{NamedBy, refusedWith}
+use Rattle.lines.specs.Appended.{findingRoom}
 use Rattle.lines.proofs.Growing.{grown-wider, grown-as}
 use borrow.Author.Needs.{needs}
 use Rattle.lines.proofs.line.finding_line.Statement.{statement}
@@ -24,14 +25,14 @@ returns c =
     let t = c .before .before in
     let g = t .before .before .before .found .given in
     let M = modelOf (t .before .before .before .before .before .before .before .args .bundle .now) in
-    grown-as (ap (λ (x : finding-type.Finding). verdictLine M (verdictSaid (refusedWith x))) (sym (g .1))) (grown-wider 268 (omega arith) (t .layout-line .ensures M))
+    grown-as (ap (λ (x : finding-type.Finding). verdictLine M (verdictSaid (refusedWith x))) (sym (g .1))) (grown-wider findingRoom (omega arith) (t .layout-line .ensures M))
 
 returns-2 : tie.Need-returns-2
 unfolding verdictLine
 returns-2 c =
     let t = c .before .before in
     let M = modelOf (t .before .before .before .before .before .before .args .bundle .now) in
-    grown-as (ap (λ (x : finding-type.Finding). verdictLine M (verdictSaid (refusedWith x))) (sym (t .before .before .enum-told .given .1))) (grown-wider 268 (omega arith) (t .number-line .ensures M))
+    grown-as (ap (λ (x : finding-type.Finding). verdictLine M (verdictSaid (refusedWith x))) (sym (t .before .before .enum-told .given .1))) (grown-wider findingRoom (omega arith) (t .number-line .ensures M))
 
 returns-3 : tie.Need-returns-3
 unfolding verdictLine
@@ -39,7 +40,7 @@ returns-3 c =
     let t = c .before .before in
     let g = t .before .before .before .found2 .given in
     let M = modelOf (t .before .before .before .before .before .before .before .args .bundle .now) in
-    grown-as (ap (λ (x : finding-type.Finding). verdictLine M (verdictSaid (refusedWith x))) (sym (g .1))) (grown-wider 268 (omega arith) (t .coverage-line .ensures))
+    grown-as (ap (λ (x : finding-type.Finding). verdictLine M (verdictSaid (refusedWith x))) (sym (g .1))) (grown-wider findingRoom (omega arith) (t .coverage-line .ensures))
 
 returns-4 : tie.Need-returns-4
 unfolding verdictLine
@@ -47,7 +48,7 @@ returns-4 c =
     let t = c .before .before in
     let g = t .before .before .before .found3 .given in
     let M = modelOf (t .before .before .before .before .before .before .before .args .bundle .now) in
-    grown-as (ap (λ (x : finding-type.Finding). verdictLine M (verdictSaid (refusedWith x))) (sym (g .1))) (grown-wider 268 (omega arith) (t .body-line .ensures M))
+    grown-as (ap (λ (x : finding-type.Finding). verdictLine M (verdictSaid (refusedWith x))) (sym (g .1))) (grown-wider findingRoom (omega arith) (t .body-line .ensures M))
 
 pub finding-line-spec : {M : Type 1} → statement M
 finding-line-spec =
@@ -55,6 +56,7 @@ finding-line-spec =
     (tie.spec
     (λ c. search needs)
     (λ c κs. search needs)
+    (λ c. search needs)
     (λ c. search needs)
     (λ c κs. search needs)
     (λ c. search needs)

@@ -3,8 +3,8 @@
 use Prim.Native.Nat.{_≤_, _<_}
 use native.Mathlib.Omega.{arith}
 use mathlib.Core.Path.{sym}
-use Rattle.bundle_rules.specs.Opening.{saidOf}
-use Rattle.calls.specs.Answers.{numberOf}
+use Rattle.rules.specs.Numbers as numbers
+use Rattle.answers.specs.Opening.{layoutNumber}
 use Rattle.lines.specs.Text.{field, finding}
 use Rattle.lines.proofs.Growing.{grown-none}
 use Rattle.lines.proofs.Recorded.{record-none, record-one}
@@ -16,7 +16,7 @@ returns : tie.Need-returns
 unfolding finding
 returns c M =
     let s = c .before .before .before in
-    let few : numberOf (saidOf (s .args .found)) < 4 = omega (arith, c .before .number .ensures, c .if1 .taken) in
+    let few : layoutNumber (s .args .found) < numbers.badClass = omega (arith, c .before .number .ensures, c .if1 .taken) in
     rw (record-none (s .args .found) few) (grown-none 32 (s .args .text .now) (s .args .at))
 
 returns-2 : tie.Need-returns-2
@@ -24,7 +24,7 @@ unfolding finding field
 returns-2 c M =
     let s = c .before .before .before .before .before .before .before .before .before in
     let t = c .before .before .before .before .before .before in
-    let many : 4 ≤ numberOf (saidOf (s .args .found)) = omega (arith, t .before .number .ensures, t .if1 .left) in
+    let many : numbers.badClass ≤ layoutNumber (s .args .found) = omega (arith, t .before .number .ensures, t .if1 .left) in
     rw (record-one (s .args .found) many, sym (c .before .before .before .«record» .ensures)) (c .before .before .put-field .ensures)
 
 pub put-record-spec : {M : Type 1} → statement M

@@ -3,10 +3,11 @@
 use native.Mathlib.Omega.{arith}
 use mathlib.Core.Path.{sym, ap, subst}
 use Rattle.rules.specs.Model.{modelOf}
-use Rattle.calls.specs.declared.check.Verdict as verdict-type
-use Rattle.calls.specs.Said.{verdictSaid}
+use Rattle.answers.specs.declared.finding.Verdict as verdict-type
+use Rattle.answers.specs.Findings.{verdictSaid}
 use Rattle.lines.specs.Text.{verdictLine}
 use Rattle.lines.specs.Findings.{Named}
+use Rattle.lines.specs.Appended.{findingRoom}
 use Rattle.lines.proofs.Growing.{grown-wider, grown-as}
 use borrow.Author.Needs.{needs}
 use Rattle.lines.proofs.line.verdict_line.Statement.{statement}
@@ -23,7 +24,7 @@ unfolding verdictLine
 returns c =
     let t = c .before .before in
     let M = modelOf (t .before .before .before .before .before .before .before .args .bundle .now) in
-    grown-as (ap (λ (x : verdict-type.Verdict). verdictLine M (verdictSaid x)) (sym (t .before .before .before .enum-told .given .1))) (grown-wider 268 (omega arith) (t .put-word .ensures))
+    grown-as (ap (λ (x : verdict-type.Verdict). verdictLine M (verdictSaid x)) (sym (t .before .before .before .enum-told .given .1))) (grown-wider findingRoom (omega arith) (t .put-word .ensures))
 
 returns-2 : tie.Need-returns-2
 returns-2 c =

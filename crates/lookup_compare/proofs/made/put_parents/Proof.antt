@@ -6,27 +6,9 @@ use lib.ListN.{length}
 use Rattle.lookup_compare.proofs.made.put_parents.Statement.{statement}
 use Rattle.lookup_compare.proofs.made.put_parents.Tie as tie
 
-abbrev Inv-loop : tie.InvT-loop
-Inv-loop space₀ state₀ at class chance sure end₀ above₀ space state end above = length space ≡ length space₀
-
-abbrev μ-loop : tie.MeasureT-loop
-μ-loop space₀ state₀ at class chance sure end₀ above₀ space state end above = class - above
-
 pub put-parents-spec : {M : Type 1} → statement M
 put-parents-spec =
     tie.close
-    (tie.spec
-    Inv-loop
-    μ-loop
-    (λ c. search needs)
-    (λ c κs. search needs)
-    (λ c. search needs)
-    (λ c. search needs)
-    (λ c κs. search needs)
-    (λ c. search needs)
-    (λ c. search needs)
-    (λ c κs. search needs)
-    (λ c. search needs)
-    (λ c. search needs)
-    (λ c. search needs)
-    (λ c. search needs))
+    (tie.spec (λ space₀ state₀ at class chance sure end₀ above₀ space state end above. length space ≡ length space₀) (λ space₀ state₀ at class chance sure end₀ above₀ space state end above. class - above)
+    (search needs) (search needs) (search needs) (search needs) (search needs) (search needs) (search needs) (search needs) (search needs) (search needs)
+    (search needs) (search needs))

@@ -8,44 +8,33 @@ use Rattle.rules.specs.Lookup.{found, lookup}
 use Rattle.rules.proofs.Lookup.{lookup-leader}
 use Rattle.layout.proofs.Opened.{counts-of, wellformed-of}
 use Rattle.dispatch.specs.Found.{foundOf}
-use Rattle.machine.specs.Endings.{turnOf, endingOf}
-use Rattle.machine.proofs.Sends.{arguments-few, call-missing, call-ambiguous, call-found}
+use Rattle.machine.proofs.Sends.{arguments-few, call-not-found, call-found}
 use Rattle.machine.proofs.Steps.{steps-as}
 use Rattle.machine.proofs.call.call.Statement.{statement}
 use Rattle.machine.proofs.call.call.Tie as tie
 
 of-requires : tie.Need-of-requires
-of-requires c κs = let p = c .before .before .before .before .before .before .before .before .before .pre in arguments-few (wellformed-of (p .0 .opened)) (p .1 .1 .0)
-
-of-requires-2 : tie.Need-of-requires-2
-of-requires-2 c κs = let p = c .before .before .before .before .before .before .before .before .before .before .pre in arguments-few (wellformed-of (p .0 .opened)) (p .1 .1 .0)
+of-requires c κs = let p = c .before .before .before .before .before .before .before .before .before .before .pre in arguments-few (wellformed-of (p .0 .opened)) (p .1 .1 .0)
 
 -- the method found is a method of the function
 is-found : (c : tie.After-found2)
     → let a = c .before .before .before .before .before .before .before .before .before .args in found (c .found2 .given .0 .0) ≡ lookup (modelOf (a .bytes .now)) (a .f) (a .args .now)
-unfolding foundOf
 is-found c = ap foundOf (sym (c .found2 .given .1)) ∙ c .before .before .lookup .ensures
 
-enter-requires : tie.Need-enter-requires
-enter-requires c κs =
+call-found-requires : tie.Need-call-found-requires
+call-found-requires c κs =
     let p = c .before .before .before .before .before .before .before .before .before .before .before .before .pre in
     let h = lookup-leader _ _ _ _ (sym (is-found (c .before .before .before))) .candidate in
     (p .0, (p .1 .1 .0, (omega (arith, h .bound, counts-of (p .0 .opened)), (h .ofFunction, p .1 .1 .1))))
 
 returns : tie.Need-returns
-unfolding turnOf endingOf foundOf
 returns c =
-    let e = ap foundOf (sym (c .before .enum-told .given .1)) ∙ c .before .before .before .lookup .ensures in
-    record { turned = call-missing _ _ _ _ (c .of .ensures) e; onward = tt }
+    let failed = c .before .before .found .given in
+    let e = ap foundOf (sym (failed .1)) ∙ c .before .before .before .before .lookup .ensures in
+    record { turned = call-not-found _ _ _ _ (failed .0 .0) (c .of .ensures) e; holding = tt }
 
 returns-2 : tie.Need-returns-2
-unfolding turnOf endingOf foundOf
-returns-2 c =
-    let e = ap foundOf (sym (c .before .before .found .given .1)) ∙ c .before .before .before .before .lookup .ensures in
-    record { turned = call-ambiguous _ _ _ _ _ _ (c .of2 .ensures) e; onward = tt }
-
-returns-3 : tie.Need-returns-3
-returns-3 c = steps-as (c .before .before .before .before .enter .ensures) (call-found _ _ _ _ _ (is-found (c .before .before .before .before .before .before .before .before)))
+returns-2 c = steps-as (c .before .before .before .before .call-found .ensures) (call-found _ _ _ _ _ (is-found (c .before .before .before .before .before .before .before .before)))
 
 pub call-spec : {M : Type 1} → statement M
 call-spec =
@@ -55,11 +44,8 @@ call-spec =
     (λ c. search needs)
     of-requires
     (λ c. search needs)
-    of-requires-2
-    (λ c. search needs)
-    enter-requires
+    call-found-requires
     returns
-    returns-2
     (λ c. search needs)
     (λ c. search needs)
-    returns-3)
+    returns-2)

@@ -6,25 +6,24 @@ use mathlib.Core.Path.{_≡_, refl, sym, ap, _∙_}
 use lib.ListN.{length}
 use borrow.Author.Needs.{needs}
 use Rattle.rules.specs.Model.{modelOf}
-use Rattle.rules.specs.Machine.{made}
+use Rattle.rules.specs.Machine.{Resumption, progress}
 use Rattle.layout.proofs.Opened.{counts-of}
 use Rattle.frames.specs.Arrays.{methodAt, nextAt, heightAt}
 use Rattle.machine.specs.Held.{resumed, Held, going}
-use Rattle.machine.specs.Endings.{turnOf, endingOf}
 use Rattle.machine.proofs.Stores.{numbers-of}
 use Rattle.machine.proofs.Ended.{resumed-stops, resumed-value, resumed-hands, caller-room}
 use Rattle.machine.proofs.returning.return_values.Statement.{statement}
 use Rattle.machine.proofs.returning.return_values.Tie as tie
 
 abbrev Inv-loop : tie.InvT-loop
-Inv-loop bytes b frames₀ values₀ top k₀ frames values k =
+Inv-loop bytes b frames₀ values₀ top steps k₀ frames values k =
     Held (modelOf bytes) frames values k
     × (resumed (modelOf bytes) frames values k ≡ resumed (modelOf bytes) frames₀ values₀ top)
     × (length frames ≡ length frames₀)
     × (length values ≡ length values₀)
 
 abbrev μ-loop : tie.MeasureT-loop
-μ-loop bytes b frames₀ values₀ top k₀ frames values k = k
+μ-loop bytes b frames₀ values₀ top steps k₀ frames values k = k
 
 loop-holds : tie.Need-loop-holds Inv-loop μ-loop
 loop-holds c = (c .before .before .before .pre .1, refl, refl, refl)
@@ -49,12 +48,16 @@ over : (c : tie.Else1 Inv-loop μ-loop)
     ≤ nextAt (l .frames) (l .k)
 over c = omega (arith, sized (c .before), c .if1 .left, c .before .before .next .ensures)
 
+-- the steps are those that it was given
+going-on : (c : tie.After-size Inv-loop μ-loop) {l o : Resumption} → l ≡ o
+    → let n = c .before .before .before .before .before .before .before .before .before .args .steps in progress l n ≡ progress o n
+going-on c e = ap (λ (x : Resumption). progress x (c .before .before .before .before .before .before .before .before .before .args .steps)) e
+
 returns : tie.Need-returns Inv-loop μ-loop
-unfolding turnOf
 returns c =
     let s = c .before in
     let l = s .before .before .before .before .before .loop in
-    record { turned = ap made (l .inv .1); onward = going (omega (arith, sized s, c .if1 .taken, s .before .next .ensures)) (l .inv .0) }
+    record { progressed = going-on s (l .inv .1); onward = going (omega (arith, sized s, c .if1 .taken, s .before .next .ensures)) (l .inv .0) }
 
 -- past the second there is one value
 single : (c : tie.Else2 Inv-loop μ-loop)
@@ -62,23 +65,21 @@ single : (c : tie.Else2 Inv-loop μ-loop)
 single c = omega (arith, c .before .height .ensures, c .if2 .left)
 
 returns-2 : tie.Need-returns-2 Inv-loop μ-loop
-unfolding turnOf endingOf
 returns-2 c =
     let e = c .before .before .before in
     let l = e .before .before .before .before .before .before .loop in
     let stops = resumed-stops _ (l .frames) (l .values) (l .k) (over e) (λ q. c .if2 .taken (c .before .height .ensures ∙ q)) in
     record {
-      turned = ap made (rw (e .before .before .before .before .method .ensures, e .before .before .next .ensures) (sym stops) ∙ l .inv .1);
+      progressed = going-on (e .before) (rw (e .before .before .before .before .method .ensures, e .before .before .next .ensures) (sym stops) ∙ l .inv .1);
       onward = tt;
     }
 
 returns-3 : tie.Need-returns-3 Inv-loop μ-loop
-unfolding turnOf endingOf
 returns-3 c =
     let e = c .before .before .before .before .before .before in
     let l = e .before .before .before .before .before .before .loop in
     let value = resumed-value _ (l .frames) (l .values) (l .k) (c .if3 .taken) (over e) (single (c .before .before .before)) in
-    record { turned = ap made (rw (c .before .lowest .ensures .0) (sym value) ∙ l .inv .1); onward = tt }
+    record { progressed = going-on (e .before) (rw (c .before .lowest .ensures .0) (sym value) ∙ l .inv .1); onward = tt }
 
 push-requires : tie.Need-push-requires Inv-loop μ-loop
 push-requires c κs =

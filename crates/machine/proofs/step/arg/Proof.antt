@@ -7,7 +7,7 @@ use mathlib.Core.List.{_∷_}
 use lib.ListN.{getD}
 use borrow.Author.Needs.{needs}
 use Rattle.rules.specs.Model.{modelOf}
-use Rattle.rules.specs.Machine.{made, resume, after}
+use Rattle.rules.specs.Machine.{made, after}
 use Rattle.layout.proofs.Opened.{counts-of, wellformed-of}
 use Rattle.machine.specs.Held.{frameOf, callersOf, split}
 use Rattle.machine.proofs.Stores.{numbers-of}
@@ -40,7 +40,7 @@ returns c =
     let M = modelOf (a .bytes .now) in
     let top = frameOf M (a .frames .now) (a .values .now) (a .top) in
     steps-as (c .before .before .before .before .put .ensures)
-    (ap (λ (v : ℕ). made (resume (after (split M top) (v ∷ top .stack)) (callersOf M (a .frames .now) (a .values .now) (a .top)))) (reads (c .before .before .before .before .before .before .before) .0)
+    (ap (λ (v : ℕ). made (after (split M top) (v ∷ top .stack)) (callersOf M (a .frames .now) (a .values .now) (a .top))) (reads (c .before .before .before .before .before .before .before) .0)
     ∙ sym (arg-puts M (wellformed-of (g .pre .0)) _ _ _ (g .pre .1 .0) (a .place)))
 
 pub arg-spec : {M : Type 1} → statement M

@@ -4,7 +4,6 @@ use mathlib.Core.Path.{sym, _∙_}
 use borrow.Author.Needs.{needs}
 use borrow.Author.Tests.{not-true, not-false}
 use Rattle.layout.proofs.Opened.{wellformed-of}
-use Rattle.machine.specs.Endings.{turnOf, endingOf}
 use Rattle.machine.proofs.Stores.{numbers-of}
 use Rattle.machine.proofs.Passes.{held-of, new-stops, new-puts}
 use Rattle.machine.proofs.Steps.{steps-as}
@@ -12,12 +11,11 @@ use Rattle.machine.proofs.step.new.Statement.{statement}
 use Rattle.machine.proofs.step.new.Tie as tie
 
 returns : tie.Need-returns
-unfolding turnOf endingOf
 returns c =
     let p = c .before .before .before .before .before .before .before .before .before .pre in
     let e = sym (c .before .before .before .before .before .is-concrete .ensures) ∙ not-true _ (c .before .before .before .before .if1 .taken) in
     let stops = new-stops _ (wellformed-of (p .0)) _ _ _ (p .1 .0) _ e in
-    record { turned = rw (c .before .before .method .ensures, c .next .ensures) (sym stops); onward = tt }
+    record { turned = rw (c .before .before .method .ensures, c .next .ensures) (sym stops); holding = tt }
 
 returns-2 : tie.Need-returns-2
 returns-2 c =

@@ -11,7 +11,6 @@ use Rattle.layout.proofs.Opened.{counts-of, wellformed-of}
 use Rattle.subclasses.specs.Places.{Arguments}
 use Rattle.frames.specs.Arrays.{heightAt}
 use Rattle.machine.specs.Held.{callersOf, turnAt, Waiting}
-use Rattle.machine.specs.Endings.{turnOf, endingOf}
 use Rattle.machine.proofs.Stores.{numbers-of}
 use Rattle.machine.proofs.Passes.{held-of, lowered-next, send-called, send-stops}
 use Rattle.machine.proofs.Steps.{steps-as}
@@ -19,11 +18,10 @@ use Rattle.machine.proofs.step.send.Statement.{statement}
 use Rattle.machine.proofs.step.send.Tie as tie
 
 returns : tie.Need-returns
-unfolding turnOf endingOf
 returns c =
     let p = c .before .before .before .before .before .before .before .before .before .before .before .before .before .pre in
     let stops = send-stops _ (wellformed-of (p .0 .opened)) _ _ _ (p .1 .1 .0) (c .before .before .before .before .before .before .before .before .before .before .before .before .before .args .f) (omega (arith, c .before .before .before .before .before .height .ensures, c .before .before .before .before .before .before .before .arity .ensures .0, c .before .before .before .before .if1 .taken)) in
-    record { turned = rw (c .before .before .method .ensures, c .next .ensures) (sym stops); onward = tt }
+    record { turned = rw (c .before .before .method .ensures, c .next .ensures) (sym stops); holding = tt }
 
 pop-requires : tie.Need-pop-requires
 pop-requires c κs =

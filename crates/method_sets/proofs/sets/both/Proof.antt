@@ -5,9 +5,9 @@ use native.Mathlib.Omega.{arith}
 use mathlib.Core.Path.{_≡_, refl, _∙_}
 use lib.Bits.{bitAnd}
 use lib.ListN.{length, getD, length-set}
-use lib.Seq.{getD-set-same, getD-set-other}
-use borrow.Author.Count.{below-none, below-more}
+use borrow.Author.Count.{below-none}
 use Rattle.method_sets.specs.Sets.{setWords}
+use Rattle.method_sets.proofs.Stored.{stored-more}
 use Rattle.method_sets.proofs.Words.{both-words}
 use Rattle.method_sets.proofs.sets.both.Statement.{statement}
 use Rattle.method_sets.proofs.sets.both.Tie as tie
@@ -23,13 +23,10 @@ abbrev μ-loop : tie.MeasureT-loop
 
 loop-again : tie.Need-loop-again Inv-loop μ-loop
 loop-again c =
-    let l = c .before .before .before .loop in (
-      omega arith,
-      length-set (l .part) (l .w) _ ∙ l .inv .1,
-      below-more _ _
-          (λ k h. getD-set-other (l .part) (l .w) k _ 0 (omega arith) ∙ l .inv .2 k h)
-          (getD-set-same (l .part) (l .w) _ 0 (omega arith)),
-    )
+    let l = c .before .before .before .loop in
+    let a = c .before .before .before .before .args in
+    let more = stored-more (λ k x. x ≡ bitAnd (getD (a .set .now) k 0) (getD (a .table .now) (a .at + k) 0)) (l .part) (l .w) in
+    (omega arith, length-set (l .part) (l .w) _ ∙ l .inv .1, more _ (omega arith) (l .inv .2) refl)
 
 pub both-spec : {M : Type 1} → statement M
 both-spec =

@@ -11,7 +11,7 @@ use Rattle.rules.specs.Layout.{maxMethods}
 use Rattle.rules.specs.Model.{Model, modelOf}
 use Rattle.layout.proofs.Opened.{counts-of, placed-of}
 use Rattle.method_sets.specs.Sets.{classOf, methodAt}
-use Rattle.method_sets.proofs.Marks.{stored-more}
+use Rattle.method_sets.proofs.Stored.{stored-more}
 use Rattle.method_sets.proofs.Orders.{method-present}
 use Rattle.method_sets.proofs.table.column.Statement.{statement}
 use Rattle.method_sets.proofs.table.column.Tie as tie

@@ -1,8 +1,8 @@
--- `method_sets::table::fill_table` meets its contract. The loop's invariant: the sets of the first places are written.
+-- `method_sets::table::fill_table` meets its contract. The loop's invariant: the sets of the first places are written, and the rest is 0.
 -- Assumes nothing.
 use Prim.Native.Nat.{_-_, _≤_}
 use native.Mathlib.Omega.{arith}
-use mathlib.Core.Path.{sym}
+use mathlib.Core.Path.{_≡_, sym}
 use Rattle.rules.specs.Layout.{places}
 use Rattle.rules.specs.Model.{modelOf}
 use Rattle.layout.proofs.Opened.{placed-of}
@@ -22,22 +22,21 @@ abbrev μ-loop : tie.MeasureT-loop
 fill-place-requires : tie.Need-fill-place-requires Inv-loop μ-loop
 fill-place-requires c κs =
     let u = c .before .before in
-    let p = u .before .before .before .before .before .pre .0 in
-    let placed = placed-of (p .opened) in
-    let q = u .column .ensures in
-    let long = column-long (p .opened) q in
-    (filled-long (p .filled), (placed .classes-limit, (omega arith, (column-classes (p .opened) q, omega (arith, placed .methods-limit)))))
+    let l = u .before .before in
+    let p = l .before .before .before .pre .0 in
+    (filled-long (p .filled), (placed-of (p .opened) .classes-limit, (omega arith, (column-classes (p .opened) (u .column .ensures), l .loop .inv .1 .long))))
 
 loop-again : tie.Need-loop-again Inv-loop μ-loop
 loop-again c =
     let u = c .before .before .before in
-    let p = u .before .before .before .before .before .pre .0 in
-    (omega arith, tabled-more p (u .column .ensures) (u .before .before .loop .inv .1) (c .fill-place .ensures))
+    let l = u .before .before in
+    (omega arith, tabled-more (l .before .before .before .pre .0) (u .column .ensures) (l .loop .inv .1) (c .fill-place .ensures))
 
 returns : tie.Need-returns Inv-loop μ-loop
 returns c =
     let l = c .before .loop in
-    record { told = λ n k i h. l .inv .1 n k i (omega arith) }
+    let all : l .place ≡ places = omega arith in
+    rw all at (l .inv .1)
 
 pub fill-table-spec : {M : Type 1} → statement M
 fill-table-spec =
@@ -45,8 +44,8 @@ fill-table-spec =
     (tie.spec
     Inv-loop
     μ-loop
-    (λ c. (omega arith, λ n k i h. absurd (omega arith)))
-    (λ c κs. let p = c .before .before .before .before .pre in (p .0 .opened, (p .1, omega arith)))
+    (λ c. (omega arith, c .before .before .pre .1 .1))
+    (λ c κs. let p = c .before .before .before .before .pre in (p .0 .opened, (p .1 .0, omega arith)))
     (λ c. column-room (c .before .before .before .before .before .pre .0 .opened) (c .column .ensures))
     (λ c. sym (column-long (c .before .before .before .before .before .before .pre .0 .opened) (c .before .column .ensures)))
     fill-place-requires

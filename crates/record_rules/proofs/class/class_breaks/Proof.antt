@@ -8,11 +8,11 @@ use mathlib.Core.Bool.{true, not, Bool·beq, and-false}
 use lib.Dec.{leb, eqb}
 use borrow.Author.Tests.{eq-eqb, ne-eqb, le-leb, lt-leb}
 use Rattle.rules.specs.Bytes.{byte}
-use Rattle.rules.specs.Layout.{classRule, sequenceRule, classAt, kindOf, listOffset, listLength, parentsOf, classCount, extent}
+use Rattle.rules.specs.Layout.{classRule, sequenceRule, classAt, kindOf, listOffset, listLength, parentsOf, classCount, extent, parentSection}
 use Rattle.record_rules.specs.Tests.{parentsRule}
 use Rattle.rules.proofs.Decides.{turned, passed}
-use Rattle.rules.proofs.Running.{in-sequence}
-use Rattle.record_rules.proofs.Parts.{in-sequence-fits, beq-true, beq-false}
+use Rattle.rules.proofs.Places.{sequence-fits}
+use Rattle.record_rules.proofs.Parts.{beq-true, beq-false}
 use Rattle.record_rules.proofs.class.class_breaks.Statement.{statement}
 use Rattle.record_rules.proofs.class.class_breaks.Tie as tie
 
@@ -27,11 +27,9 @@ filler-holds c = rw (← c .before .filler .ensures) (eq-eqb _ _ (c .if2 .left))
 -- the list's place and its parents, in the words of the rule
 sequence : (c : tie.After-misplaced)
     → let a = c .before .before .before .before .before .before .before .before .args in
-    sequenceRule (listOffset (a .bytes .now)) (listLength (a .bytes .now)) (classCount (a .bytes .now)) (extent (a .bytes .now) 1) (a .c)
+    sequenceRule (listOffset (a .bytes .now)) (listLength (a .bytes .now)) (classCount (a .bytes .now)) (extent (a .bytes .now) parentSection) (a .c)
     ≡ not (c .misplaced .result)
-sequence c =
-    let a = c .before .before .before .before .before .before .before .before .args in
-    turned (c .misplaced .result) (cc (in-sequence (listOffset (a .bytes .now)) (listLength (a .bytes .now)) (classCount (a .bytes .now)) (extent (a .bytes .now) 1) (a .c)))
+sequence c = turned (c .misplaced .result) (cc)
 
 parents : (c : tie.After-parents-break)
     → let a = c .before .before .before .before .before .before .before .before .before .before .before .args in
@@ -54,15 +52,8 @@ returns-3 c = rw (sequence (c .before), c .if3 .taken) (simp and-false)
 parents-break-requires : tie.Need-parents-break-requires
 parents-break-requires c κs =
     let e = c .before in
-    let start = e .before .before .before .list-offset .result in
-    let size = e .before .before .list-length .result in
     let s = e .before .before .before .before .before .before .before .before .before in
-    let a = s .args in
-    omega (
-      arith,
-      s .pre .0 .parent-end,
-      in-sequence-fits start size (a .before) (a .b .classes) (a .b .«parent_len») (a .c) (passed (e .before .misplaced .ensures) (e .if3 .left)),
-    )
+    omega (arith, s .pre .0 .parent-end, sequence-fits _ _ _ _ _ _ (passed (e .before .misplaced .ensures) (e .if3 .left)))
 
 returns-4 : tie.Need-returns-4
 unfolding classRule
@@ -75,7 +66,7 @@ returns-4 c =
 rest : (c : tie.Else4)
     → let e = c .before .before .before in
     let a = e .before .before .before .before .before .before .before .before .before .args in
-    classRule (a .bytes .now) (a .c) ≡ Bool·beq (eqb (a .c) 0) (eqb (e .before .before .list-length .result) 0)
+    classRule (a .bytes .now) (a .c) ≡ Bool·beq (eqb (a .c) 0) (eqb (e .before .before .parent-count .result) 0)
 unfolding classRule
 rest c =
     let e = c .before .before .before in
@@ -87,14 +78,14 @@ rest c =
       e .if3 .left,
       parents (c .before),
       c .if4 .left,
-      ← e .before .before .list-length .ensures .0,
+      ← e .before .before .parent-count .ensures .0,
     )
 
 returns-5 : tie.Need-returns-5
-returns-5 c = rw (rest (c .before), eq-eqb _ _ (c .if5 .taken), beq-true (eqb (c .before .before .before .before .before .before .list-length .result) 0))
+returns-5 c = rw (rest (c .before), eq-eqb _ _ (c .if5 .taken), beq-true (eqb (c .before .before .before .before .before .before .parent-count .result) 0))
 
 returns-6 : tie.Need-returns-6
-returns-6 c = rw (rest (c .before), ne-eqb _ _ (c .if5 .left), beq-false (eqb (c .before .before .before .before .before .before .list-length .result) 0))
+returns-6 c = rw (rest (c .before), ne-eqb _ _ (c .if5 .left), beq-false (eqb (c .before .before .before .before .before .before .parent-count .result) 0))
 
 pub class-breaks-spec : {M : Type 1} → statement M
 class-breaks-spec =

@@ -33,14 +33,4 @@ returns-3 c =
     (leb-not-ltb (d .before .before .byte-at .result) (c .byte-at2 .result))
 
 pub parent-breaks-spec : {M : Type 1} → statement M
-parent-breaks-spec =
-    tie.close
-    (tie.spec
-    (λ c. search needs)
-    (λ c κs. search needs)
-    returns
-    returns-2
-    (λ c. search needs)
-    (λ c. search needs)
-    (λ c κs. search needs)
-    returns-3)
+parent-breaks-spec = tie.close (tie.spec (λ c. search needs) (λ c κs. search needs) returns returns-2 (λ c. search needs) (λ c. search needs) (λ c κs. search needs) returns-3)

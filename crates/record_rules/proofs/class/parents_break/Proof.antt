@@ -36,15 +36,4 @@ returns-2 c =
     kept (parents-part (a .bytes .now) (a .at) (a .c) (a .size) (search needs)) (λ k l. s .loop .inv .1 k (omega arith))
 
 pub parents-break-spec : {M : Type 1} → statement M
-parents-break-spec =
-    tie.close
-    (tie.spec
-    Inv-loop
-    μ-loop
-    (λ c. (search needs, below-none _))
-    (λ c κs. search needs)
-    returns
-    (λ c. search needs)
-    (λ c. search needs)
-    loop-again
-    returns-2)
+parents-break-spec = tie.close (tie.spec Inv-loop μ-loop (λ c. (search needs, below-none _)) (λ c κs. search needs) returns (λ c. search needs) (λ c. search needs) loop-again returns-2)

@@ -8,8 +8,8 @@ use Rattle.record_rules.proofs.Parts.{method-function, body-fits, body-
 use Rattle.record_rules.proofs.code.code_breaks.Statement.{statement}
 use Rattle.record_rules.proofs.code.code_breaks.Tie as tie
 
-argument-count-requires : tie.Need-argument-count-requires
-argument-count-requires c κs =
+arity-requires : tie.Need-arity-requires
+arity-requires c κs =
     let s = c .before .before in
     (s .pre .0, omega (arith, method-function (s .args .bytes .now) (s .args .m) (s .pre .1 .1)))
 
@@ -31,7 +31,7 @@ code-breaks-spec =
     tie.close
     (tie.spec
     (λ c κs. (c .before .pre .0, c .before .pre .1 .0))
-    argument-count-requires
+    arity-requires
     (λ c κs. let s = c .before .before .before in (s .pre .0, s .pre .1 .0))
     (λ c κs. let s = c .before .before .before .before in (s .pre .0, s .pre .1 .0))
     (λ c. search needs)

@@ -16,10 +16,4 @@ returns c =
     (leb-not-ltb (getD (a .limits .now) (c .before .entry .result) 0) (a .operand))
 
 pub instruction-breaks-spec : {M : Type 1} → statement M
-instruction-breaks-spec =
-    tie.close
-    (tie.spec
-    (λ c κs. search needs)
-    (λ c. search needs)
-    (λ c. omega (arith, c .before .before .before .pre .long, c .before .entry .ensures .1))
-    returns)
+instruction-breaks-spec = tie.close (tie.spec (λ c κs. search needs) (λ c. search needs) (λ c. omega (arith, c .before .before .before .pre .long, c .before .entry .ensures .1)) returns)

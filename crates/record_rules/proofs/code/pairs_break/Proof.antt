@@ -36,15 +36,4 @@ returns-2 c =
     kept (pairs-part (a .bytes .now) (a .at) (byLimits (a .limits .now)) (a .count) (search needs)) (λ k l. s .loop .inv .1 k (omega arith))
 
 pub pairs-break-spec : {M : Type 1} → statement M
-pairs-break-spec =
-    tie.close
-    (tie.spec
-    Inv-loop
-    μ-loop
-    (λ c. (search needs, below-none _))
-    (λ c κs. search needs)
-    returns
-    (λ c. search needs)
-    (λ c. search needs)
-    loop-again
-    returns-2)
+pairs-break-spec = tie.close (tie.spec Inv-loop μ-loop (λ c. (search needs, below-none _)) (λ c κs. search needs) returns (λ c. search needs) (λ c. search needs) loop-again returns-2)

@@ -8,7 +8,7 @@ use Rattle.record_rules.proofs.function.function_breaks.Tie as tie
 
 returns : tie.Need-returns
 unfolding functionRule
-returns c = rw (← c .argument-count .ensures) (ltb-not-leb places (c .argument-count .result))
+returns c = rw (← c .arity .ensures) (ltb-not-leb places (c .arity .result))
 
 pub function-breaks-spec : {M : Type 1} → statement M
 function-breaks-spec = tie.close (tie.spec (λ c κs. search needs) returns)

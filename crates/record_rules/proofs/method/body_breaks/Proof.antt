@@ -4,20 +4,17 @@ use borrow.Author.Needs.{needs}
 use mathlib.Core.Path.{_≡_}
 use mathlib.Core.Bool.{not, and-false}
 use borrow.Author.Tests.{le-leb, lt-leb}
-use Rattle.rules.specs.Layout.{sequenceRule, bodyOffset, bodyLength, methodCount, extent}
+use Rattle.rules.specs.Layout.{sequenceRule, bodyOffset, bodyLength, methodCount, extent, codeSection}
 use Rattle.rules.proofs.Decides.{turned}
-use Rattle.rules.proofs.Running.{in-sequence}
 use Rattle.record_rules.proofs.method.body_breaks.Statement.{statement}
 use Rattle.record_rules.proofs.method.body_breaks.Tie as tie
 
 -- the body's place, in the words of the rule
 sequence : (c : tie.After-misplaced)
     → let a = c .before .before .before .before .args in
-    sequenceRule (bodyOffset (a .bytes .now)) (bodyLength (a .bytes .now)) (methodCount (a .bytes .now)) (extent (a .bytes .now) 5) (a .m)
+    sequenceRule (bodyOffset (a .bytes .now)) (bodyLength (a .bytes .now)) (methodCount (a .bytes .now)) (extent (a .bytes .now) codeSection) (a .m)
     ≡ not (c .misplaced .result)
-sequence c =
-    let a = c .before .before .before .before .args in
-    turned (c .misplaced .result) (cc (in-sequence (bodyOffset (a .bytes .now)) (bodyLength (a .bytes .now)) (methodCount (a .bytes .now)) (extent (a .bytes .now) 5) (a .m)))
+sequence c = turned (c .misplaced .result) (cc)
 
 returns-2 : tie.Need-returns-2
 returns-2 c = rw (← c .before .before .before .body-length .ensures .0, lt-leb _ _ (c .if2 .taken)) (simp and-false)
@@ -38,13 +35,4 @@ returns-4 c =
     )
 
 pub body-breaks-spec : {M : Type 1} → statement M
-body-breaks-spec =
-    tie.close
-    (tie.spec
-    (λ c κs. search needs)
-    (λ c κs. search needs)
-    (λ c κs. search needs)
-    (λ c. rw (sequence (c .before), c .if1 .taken))
-    returns-2
-    returns-3
-    returns-4)
+body-breaks-spec = tie.close (tie.spec (λ c κs. search needs) (λ c κs. search needs) (λ c κs. search needs) (λ c. rw (sequence (c .before), c .if1 .taken)) returns-2 returns-3 returns-4)

@@ -15,7 +15,7 @@ function-holds : (c : tie.Else1)
     ltb (functionOf (a .bytes .now) (a .m)) (functionCount (a .bytes .now)) ≡ true
 function-holds c =
     let s = c .before .before .before .before in
-    rw (← c .before .before .method-function .ensures, ← s .pre .0 .tables .functions) (lt-ltb _ _ (c .if1 .left))
+    rw (← c .before .before .function .ensures, ← s .pre .0 .tables .functions) (lt-ltb _ _ (c .if1 .left))
 
 -- the two tuples, in the words of the rule
 specialisers : (c : tie.After-tuple-breaks)
@@ -26,7 +26,7 @@ unfolding specialiserTupleOf
 specialisers c = turned (c .tuple-breaks .result) (cc)
 
 declared : (c : tie.After-tuple-breaks2)
-    → let a = c .before .before .before .before .before .before .before .before .before .args in
+    → let a = c .before .before .before .before .before .before .before .before .before .before .args in
     let b = a .bytes .now in
     tupleRule (classCount b) (arityOf b (functionOf b (a .m))) (declaredTupleOf b (a .m)) ≡ not (c .tuple-breaks2 .result)
 unfolding declaredTupleOf
@@ -36,7 +36,7 @@ returns : tie.Need-returns
 unfolding methodRule
 returns c =
     let s = c .before .before .before .before in
-    rw (← c .before .before .method-function .ensures, ← s .pre .0 .tables .functions, le-ltb _ _ (c .if1 .taken))
+    rw (← c .before .before .function .ensures, ← s .pre .0 .tables .functions, le-ltb _ _ (c .if1 .taken))
 
 returns-2 : tie.Need-returns-2
 unfolding methodRule
@@ -49,15 +49,15 @@ returns-3 c = rw (declared (c .before), c .if3 .taken) (simp and-false)
 returns-4 : tie.Need-returns-4
 unfolding methodRule
 returns-4 c =
-    let f = c .before .before .before .before .before .before .before .before .before in
-    rw (← c .before .before .method-result .ensures, ← f .before .before .before .before .pre .0 .tables .classes, le-ltb _ _ (c .if4 .taken)) (simp and-false)
+    let f = c .before .before .before .before .before .before .before .before .before .before in
+    rw (← c .before .before .result .ensures, ← f .before .before .before .before .pre .0 .tables .classes, le-ltb _ _ (c .if4 .taken)) (simp and-false)
 
 returns-5 : tie.Need-returns-5
 unfolding methodRule
 returns-5 c =
     let r = c .before in
     let e = r .before .before .before in
-    let d = e .before .before in
+    let d = e .before .before .before in
     let f = d .before .before .before .before in
     rw (
       function-holds f,
@@ -65,7 +65,7 @@ returns-5 c =
       d .if2 .left,
       declared (e .before),
       e .if3 .left,
-      ← r .before .before .method-result .ensures,
+      ← r .before .before .result .ensures,
       ← f .before .before .before .before .pre .0 .tables .classes,
       lt-ltb _ _ (r .if4 .left),
     )
@@ -79,10 +79,9 @@ method-breaks-spec =
     returns
     (λ c κs. search needs)
     (λ c κs. search needs)
-    (λ c. search needs)
     (λ c κs. search needs)
     returns-2
-    (λ c. search needs)
+    (λ c κs. search needs)
     (λ c κs. search needs)
     returns-3
     (λ c κs. search needs)

@@ -5,7 +5,7 @@ use Prim.Native.Nat.{suc}
 use native.Mathlib.Omega.{arith}
 use mathlib.Core.Bool.{and-false}
 use borrow.Author.Tests.{eq-eqb, ne-eqb, le-leb, lt-leb, lt-ltb, le-ltb}
-use Rattle.rules.specs.Running.{inSequence}
+use Rattle.rules.specs.Layout.{inSequence}
 use Rattle.record_rules.proofs.sequence.misplaced.Statement.{statement}
 use Rattle.record_rules.proofs.sequence.misplaced.Tie as tie
 
@@ -38,5 +38,4 @@ returns-4 c =
     )
 
 pub misplaced-spec : {M : Type 1} → statement M
-misplaced-spec =
-    tie.close (tie.spec returns (λ c. search needs) returns-2 (λ c. search needs) returns-3 (λ c. search needs) returns-4)
+misplaced-spec = tie.close (tie.spec returns (λ c. search needs) returns-2 (λ c. search needs) returns-3 (λ c. search needs) returns-4)

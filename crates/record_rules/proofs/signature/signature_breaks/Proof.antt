@@ -15,7 +15,7 @@ function-holds : (c : tie.Else1)
     ltb (sigFunctionOf (a .bytes .now) (a .s)) (functionCount (a .bytes .now)) ≡ true
 function-holds c =
     let s = c .before .before .before .before in
-    rw (← c .before .before .signature-function .ensures, ← s .pre .0 .tables .functions) (lt-ltb _ _ (c .if1 .left))
+    rw (← c .before .before .sig-function .ensures, ← s .pre .0 .tables .functions) (lt-ltb _ _ (c .if1 .left))
 
 -- the tuple, in the words of the rule
 arguments : (c : tie.After-tuple-breaks)
@@ -29,7 +29,7 @@ returns : tie.Need-returns
 unfolding signatureRule
 returns c =
     let s = c .before .before .before .before in
-    rw (← c .before .before .signature-function .ensures, ← s .pre .0 .tables .functions, le-ltb _ _ (c .if1 .taken))
+    rw (← c .before .before .sig-function .ensures, ← s .pre .0 .tables .functions, le-ltb _ _ (c .if1 .taken))
 
 returns-2 : tie.Need-returns-2
 unfolding signatureRule
@@ -45,21 +45,10 @@ returns-3 c =
       function-holds f,
       arguments (d .before),
       d .if2 .left,
-      ← c .before .signature-result .ensures,
+      ← c .before .sig-result .ensures,
       ← s .pre .0 .tables .classes,
     )
-    (leb-not-ltb (s .args .b .classes) (c .before .signature-result .result))
+    (leb-not-ltb (s .args .b .classes) (c .before .sig-result .result))
 
 pub signature-breaks-spec : {M : Type 1} → statement M
-signature-breaks-spec =
-    tie.close
-    (tie.spec
-    (λ c κs. search needs)
-    returns
-    (λ c κs. search needs)
-    (λ c κs. search needs)
-    (λ c. search needs)
-    (λ c κs. search needs)
-    returns-2
-    (λ c κs. search needs)
-    returns-3)
+signature-breaks-spec = tie.close (tie.spec (λ c κs. search needs) returns (λ c κs. search needs) (λ c κs. search needs) (λ c κs. search needs) returns-2 (λ c κs. search needs) returns-3)

@@ -1,10 +1,7 @@
 -- `reply::Reply::of_lookup` meets its contract: case by case.
 -- Assumes nothing.
 use borrow.Author.Needs.{needs}
-use mathlib.Core.Path.{_∙_}
 use Rattle.rules.specs.Bits.{bit}
-use Rattle.reply.specs.Replies.{matchValues}
-use Rattle.reply.proofs.Replies.{refusal-reply}
 use Rattle.reply.proofs.Reply.of_lookup.Statement.{statement}
 use Rattle.reply.proofs.Reply.of_lookup.Tie as tie
 
@@ -12,23 +9,7 @@ returns : tie.Need-returns
 unfolding bit
 returns c = rw (c .before .before .answer .given .1) (c .pair .ensures)
 
-returns-4 : tie.Need-returns-4
-returns-4 c = rw (c .before .before .answer4 .given .1) (c .of-refusal .ensures ∙ refusal-reply matchValues (c .before .before .answer4 .given .0 .0))
-
 pub of-lookup-spec : {M : Type 1} → statement M
 of-lookup-spec =
     tie.close
-    (tie.spec
-    (λ c. search needs)
-    (λ c. search needs)
-    (λ c κs. search needs)
-    (λ c. search needs)
-    (λ c κs. search needs)
-    (λ c. search needs)
-    (λ c κs. search needs)
-    (λ c. search needs)
-    (λ c κs. search needs)
-    returns
-    (λ c. rw (c .before .before .answer2 .given .1) (c .of-send .ensures))
-    (λ c. rw (c .before .before .answer3 .given .1) (c .of-send2 .ensures))
-    returns-4)
+    (tie.spec (λ c. search needs) (λ c. search needs) (λ c κs. search needs) (λ c. search needs) (λ c κs. search needs) (λ c. search needs) (λ c κs. search needs) returns (λ c. rw (c .before .before .answer2 .given .1) (c .of-send .ensures)) (λ c. rw (c .before .before .answer3 .given .1) (c .of-refusal .ensures)))

@@ -1,21 +1,10 @@
 -- `reply::Reply::of_run` meets its contract: how the run ended, or a refusal.
 -- Assumes nothing.
 use borrow.Author.Needs.{needs}
-use mathlib.Core.Path.{_∙_}
-use Rattle.reply.proofs.Replies.{refusal-run-reply}
 use Rattle.reply.proofs.Reply.of_run.Statement.{statement}
 use Rattle.reply.proofs.Reply.of_run.Tie as tie
-
-returns-2 : tie.Need-returns-2
-returns-2 c = rw (c .before .before .answer2 .given .1) (c .of-refusal .ensures ∙ refusal-run-reply (c .before .before .answer2 .given .0 .0))
 
 pub of-run-spec : {M : Type 1} → statement M
 of-run-spec =
     tie.close
-    (tie.spec
-    (λ c. search needs)
-    (λ c κs. search needs)
-    (λ c. search needs)
-    (λ c κs. search needs)
-    (λ c. rw (c .before .before .answer .given .1) (c .of-outcome .ensures))
-    returns-2)
+    (tie.spec (λ c. search needs) (λ c κs. search needs) (λ c. search needs) (λ c κs. search needs) (λ c. rw (c .before .before .answer .given .1) (c .of-outcome .ensures)) (λ c. rw (c .before .before .answer2 .given .1) (c .of-refusal .ensures)))

@@ -3,7 +3,7 @@
 use borrow.Author.Needs.{needs}
 use borrow.Author.Tests.{eq-eqb, ne-eqb}
 use mathlib.Core.Path.{sym, _∙_}
-use Rattle.sends.specs.Covered.{coversSend}
+use Rattle.rules.specs.Coverage.{coversSend}
 use Rattle.sends.proofs.covered.covers_send.Statement.{statement}
 use Rattle.sends.proofs.covered.covers_send.Tie as tie
 

@@ -5,7 +5,7 @@ use borrow.Author.Tests.{not-true, not-false}
 use native.Mathlib.Omega.{arith}
 use mathlib.Core.Path.{refl, sym, _∙_}
 use mathlib.Core.Bool.{false≢true}
-use Rattle.subclasses.specs.Send.{tupleOf}
+use Rattle.answers.specs.Send.{tupleOf}
 use Rattle.sends.proofs.Sent.{kept}
 use Rattle.sends.proofs.send.classes_of.Statement.{statement}
 use Rattle.sends.proofs.send.classes_of.Tie as tie

@@ -8,13 +8,13 @@ use native.Mathlib.Omega.{arith}
 use mathlib.Core.Path.{_≡_, sym, _∙_}
 use mathlib.Core.Bool.{true}
 use lib.ListN.{length, getD}
-use Rattle.sends.specs.Send.{fitsPlace}
-use Rattle.sends.proofs.Sent.{places-decides}
+use Rattle.rules.specs.Layout.{placeRule}
+use Rattle.rules.proofs.Decides.{tuple-decides}
 use Rattle.sends.proofs.send.is_tuple.Statement.{statement}
 use Rattle.sends.proofs.send.is_tuple.Tie as tie
 
 abbrev Inv-loop : tie.InvT-loop
-Inv-loop classes n places i₀ i = (i ≤ length places) × ((k : ℕ) → k < i → fitsPlace classes n k (getD places k 0) ≡ true)
+Inv-loop classes n places i₀ i = (i ≤ length places) × ((k : ℕ) → k < i → placeRule classes n k (getD places k 0) ≡ true)
 
 abbrev μ-loop : tie.MeasureT-loop
 μ-loop classes n places i₀ i = length places - i
@@ -22,7 +22,7 @@ abbrev μ-loop : tie.MeasureT-loop
 returns : tie.Need-returns Inv-loop μ-loop
 returns c =
     let l = c .before .before .before .before in
-    sym (places-decides _ _ _ .breaks (l .loop .i) (search needs) (sym (c .before .fits2 .ensures) ∙ not-true _ (c .if1 .taken)))
+    sym (tuple-decides _ _ _ .breaks (l .loop .i) (search needs) (sym (c .before .fits2 .ensures) ∙ not-true _ (c .if1 .taken)))
 
 loop-again : tie.Need-loop-again Inv-loop μ-loop
 loop-again c =
@@ -30,4 +30,4 @@ loop-again c =
     (search needs, below-more _ _ (l .loop .inv .1) (sym (c .before .fits2 .ensures) ∙ not-false _ (c .if1 .left)))
 
 pub is-tuple-spec : {M : Type 1} → statement M
-is-tuple-spec = tie.close (tie.spec Inv-loop μ-loop (λ c. (search needs, below-none _)) (λ c. search needs) (λ c. search needs) (λ c κs. search needs) returns (λ c. search needs) (λ c. search needs) loop-again (λ c. sym (places-decides _ _ _ .holds (λ i l. c .before .loop .inv .1 i (omega arith)))))
+is-tuple-spec = tie.close (tie.spec Inv-loop μ-loop (λ c. (search needs, below-none _)) (λ c. search needs) (λ c. search needs) (λ c κs. search needs) returns (λ c. search needs) (λ c. search needs) loop-again (λ c. sym (tuple-decides _ _ _ .holds (λ i l. c .before .loop .inv .1 i (omega arith)))))

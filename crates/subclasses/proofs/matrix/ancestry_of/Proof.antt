@@ -29,14 +29,4 @@ returns-3 c =
     rw (not-false (entryAt (a .scratch .now) (a .a) (a .c)) (c .before .if1 .left), ne-eqb (a .a) (a .c) (c .if2 .left))
 
 pub ancestry-of-spec : {M : Type 1} → statement M
-ancestry-of-spec =
-    tie.close
-    (tie.spec
-    (λ c. search needs)
-    (λ c. search needs)
-    (λ c. search needs)
-    (λ c. search needs)
-    (λ c. search needs)
-    returns
-    returns-2
-    returns-3)
+ancestry-of-spec = tie.close (tie.spec (λ c. search needs) (λ c. search needs) (λ c. search needs) (λ c. search needs) (λ c. search needs) returns returns-2 returns-3)

@@ -11,13 +11,13 @@ each-under-requires : tie.Need-each-under-requires
 each-under-requires c κs =
     let p = c .before .before .before .before .pre in
     let o = p .0 .opened in
-    comparable (p .0) (p .1 .1) (declared-present o (p .1 .0)) refl (c .declared-classes .ensures) (sym (declared-long o (p .1 .0)))
+    comparable (p .0) (p .1 .1) (declared-present o (p .1 .0)) refl (c .declared-classes .ensures .1) (sym (declared-long o (p .1 .0)))
 
 returns : tie.Need-returns
 unfolding declaredHold
 returns c =
     let p = c .before .before .before .before .before .pre in
-    compared (p .0) (p .1 .1) (declared-present (p .0 .opened) (p .1 .0)) refl (c .before .declared-classes .ensures) (c .each-under .ensures)
+    compared (p .0) (p .1 .1) (declared-present (p .0 .opened) (p .1 .0)) refl (c .before .declared-classes .ensures .1) (c .each-under .ensures)
 
 pub declared-hold-spec : {M : Type 1} → statement M
 declared-hold-spec = tie.close (tie.spec (λ c κs. search needs) each-under-requires returns)

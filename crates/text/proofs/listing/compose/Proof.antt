@@ -2,7 +2,7 @@
 -- Assumes nothing.
 use mathlib.Core.Path.{_∙_, sym, ap, subst}
 use Rattle.rules.specs.Model.{modelOf}
-use Rattle.bundle_rules.specs.Opening.{said, Opens}
+use Rattle.answers.specs.Opening.{said, Opens}
 use Rattle.text.proofs.Composing.{composed-refused}
 use borrow.Author.Needs.{needs}
 use Rattle.text.proofs.listing.compose.Statement.{statement}
@@ -15,16 +15,16 @@ returns c =
     let u = f .before .before .before .before in
     let s = u .before .before .before in
     let b = s .args .bundle .now in
-    let e = ap said (sym (f .finding-of .ensures)) ∙ u .«open» .ensures .1 .answer in
+    let e = ap said (sym (f .finding .ensures)) ∙ u .«open» .ensures .answer in
     let line = t .layout-line .ensures (modelOf b) in
-    (composed-refused b (f .finding-of .result) _ _ _ e (s .pre) line, line .same)
+    (composed-refused b (f .finding .result) _ _ _ e (s .pre) line, line .same)
 
 compose-opened-requires : tie.Need-compose-opened-requires
 compose-opened-requires c κs =
     let k = c .before .before in
     let u = k .before .before in
     let s = u .before .before .before in
-    (subst (Opens (s .args .bundle .now)) (k .opening .given .1) (u .«open» .ensures .1), s .pre)
+    (subst (Opens (s .args .bundle .now)) (k .opening .given .1) (u .«open» .ensures), s .pre)
 
 pub compose-spec : {M : Type 1} → statement M
 compose-spec =

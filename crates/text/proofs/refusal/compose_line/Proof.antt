@@ -5,9 +5,9 @@ use native.Mathlib.Omega.{arith}
 use mathlib.Core.Path.{_≡_, refl, _∙_}
 use borrow.Author.Needs.{needs}
 use Rattle.rules.specs.Model.{Model}
-use Rattle.calls.specs.declared.refusal.Refusal.{Refusal}
-use Rattle.calls.specs.declared.refusal.Refusal.the-variants as refusal
-use Rattle.calls.specs.Said.{refusalSaid}
+use Rattle.answers.specs.declared.refusal.Refusal.{Refusal}
+use Rattle.answers.specs.declared.refusal.Refusal.the-variants as refusal
+use Rattle.answers.specs.Refusals.{refusalSaid}
 use Rattle.chart_line.specs.declared.line.ChartAnswer.{ChartAnswer}
 use Rattle.chart_line.specs.Charted.{chartSaid}
 use Rattle.lines.specs.Text.{refusalLine}
@@ -19,14 +19,6 @@ use Rattle.text.proofs.refusal.compose_line.Tie as tie
 told : (M : Model) {x y : ChartAnswer} → x ≡ y → refusalLine M (chartSaid y) ≡ refusalLine M (chartSaid x)
 told M e = rw e
 
--- a refusal is printed alike for every call
-alike : (M : Model) (r : Refusal) → refusalLine {A = Unit {0}} M (refusalSaid r) ≡ refusalLine {A = ℕ} M (refusalSaid r)
-unfolding refusalLine
-alike M (refusal.Layout f) = refl
-alike M refusal.Scratch = refl
-alike M refusal.Row = refl
-alike M refusal.Absent = refl
-
 returns : tie.Need-returns
 unfolding refusalLine
 returns c M = grown-as (told M (c .enum-told .given .1)) (grown-none 76 _ 0)
@@ -36,7 +28,7 @@ unfolding refusalLine
 returns-2 c M =
     let t = c .before .before in
     let g = t .before .before .before .answer .given in
-    grown-as (alike M (g .0 .0) ∙ told M (g .1)) (t .early-line .ensures M)
+    grown-as (told M (g .1)) (t .early-line .ensures M)
 
 returns-3 : tie.Need-returns-3
 unfolding refusalLine
@@ -59,22 +51,5 @@ returns-5 c M =
 pub compose-line-spec : {M : Type 1} → statement M
 compose-line-spec =
     tie.close
-    (tie.spec
-    (λ c. search needs)
-    (λ c. search needs)
-    (λ c κs. search needs)
-    (λ c. search needs)
-    (λ c κs. search needs)
-    (λ c. search needs)
-    (λ c κs. search needs)
-    (λ c. search needs)
-    (λ c κs. search needs)
-    returns
-    (λ c. search needs)
-    returns-2
-    (λ c. search needs)
-    returns-3
-    (λ c. search needs)
-    returns-4
-    (λ c. search needs)
-    returns-5)
+    (tie.spec (λ c. search needs) (λ c. search needs) (λ c κs. search needs) (λ c. search needs) (λ c. search needs) (λ c κs. search needs) (λ c. search needs) (λ c. search needs) (λ c κs. search needs)
+    (λ c. search needs) (λ c. search needs) (λ c κs. search needs) returns (λ c. search needs) returns-2 (λ c. search needs) returns-3 (λ c. search needs) returns-4 (λ c. search needs) returns-5)

@@ -12,8 +12,8 @@ returns-2 c = λ e.
     let one = s .before .before .row-at .ensures .0 in
     let other = s .before .row-at2 .ensures .0 in
     record {
-      specialised = rw (one, other) at (s .same-within .ensures (not-false _ (c .before .if1 .left)));
-      declared = rw (one, other) at (c .same-within2 .ensures e);
+      specialised = rw (one, other) at (s .same-within .ensures .0 (not-false _ (c .before .if1 .left)));
+      declared = rw (one, other) at (c .same-within2 .ensures .0 e);
     }
 
 pub alike-spec : {M : Type 1} → statement M

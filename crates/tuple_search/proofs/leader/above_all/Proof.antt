@@ -34,7 +34,7 @@ loop-again : tie.Need-loop-again Inv-loop μ-loop
 loop-again c =
     let w = c .before in
     let s = w .before .before in
-    (omega arith, below-more _ _ (s .before .before .loop .inv .1) (rw (w .before .row-at .ensures .0, s .specialiser .ensures .0) at (w .within .ensures (not-false _ (c .if1 .left)))))
+    (omega arith, below-more _ _ (s .before .before .loop .inv .1) (rw (w .before .row-at .ensures .0, s .specialiser .ensures .0) at (w .within .ensures .0 (not-false _ (c .if1 .left)))))
 
 returns-2 : tie.Need-returns-2 Inv-loop μ-loop
 returns-2 c = λ e p h. c .before .loop .inv .1 p (omega arith)

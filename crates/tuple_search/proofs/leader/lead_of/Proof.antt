@@ -31,7 +31,7 @@ returns-4 c = λ h.
     let o = u .before .before .before .before .pre .0 in
     let counts = counts-of o in
     let few = placed-of o .methods-limit in
-    ((u .first-position .result, omega arith, refl, u .first-position .ensures (omega arith)), c .before .above-all .ensures (not-false _ (c .if3 .left)))
+    ((u .first-position .result, omega arith, refl, u .first-position .ensures .member (omega arith)), c .before .above-all .ensures (not-false _ (c .if3 .left)))
 
 pub lead-of-spec : {M : Type 1} → statement M
 lead-of-spec =

@@ -1,28 +1,26 @@
--- `tuple_search::signature::search` meets its contract. Each call of itself has one more place filled. The loop's invariant: what the whole search finds is
+-- `tuple_search::search::search` meets its contract. Each call of itself has one place less to fill. The loop's invariant: what the whole search finds is
 -- what the search among the classes from k on finds, the tried classes are in no broken tuple, and the places filled before are as they were.
 -- Assumes nothing.
 use Prim.Native.Nat.{ℕ, _+_, _-_, _≤_, _<_}
 use native.Mathlib.Omega.{arith}
-use mathlib.Core.Path.{_≡_, refl, sym, ap, subst, _∙_}
-use mathlib.Core.List.{List, [], _∷_, _++_, List·Memᴰ}
+use mathlib.Core.Path.{_≡_, refl, sym, ap, _∙_}
+use mathlib.Core.List.{List, [], _∷_, _++_}
 use lib.ListN.{length, getD, take, drop, set, length-set}
-use lib.Seq.{take-length, length-take-le, getD-take, set-getD, set-set}
+use lib.Seq.{take-length}
 use borrow.Author.Tests.{not-true, not-false}
 use borrow.Fn.Kinds.{In}
 use borrow.Fn.PlainCycle.{Measures, is, falls, and}
 use Rattle.rules.specs.Bytes.{byte}
 use Rattle.rules.specs.Layout.{places, maxClasses}
-use Rattle.rules.specs.Model.{Model, modelOf}
+use Rattle.rules.specs.Model.{modelOf}
 use Rattle.rules.specs.Coverage.{candidateClass}
-use Rattle.rules.proofs.Lists.{getD-mem}
 use Rattle.layout.proofs.Opened.{placed-of, counts-of, wellformed-of}
 use Rattle.subclasses.proofs.Asked.{class-below}
-use Rattle.tuple_search.specs.declared.question.Question.{Question}
-use Rattle.tuple_search.specs.Search.{stopIn, Ends}
+use Rattle.tuple_search.specs.Search.{Ends}
 use Rattle.tuple_search.proofs.Leading.{led-part}
 use Rattle.tuple_search.proofs.Narrowing.{chosen-more, filling-places, filling-kept, filling-more}
-use Rattle.tuple_search.proofs.Searching.{remaining, filled-ends, search-opens, search-ends, no-place, restored-kept, class-skipped, class-passed, class-stops, passed-through}
-use Rattle.tuple_search.proofs.Trying.{Tried, tried-none, tried-more, alike-passed}
+use Rattle.tuple_search.proofs.Searching.{filled-ends, no-place, class-skipped, class-passed, class-stops, passed-through}
+use Rattle.tuple_search.proofs.Trying.{Behind, behind-none, behind-kept, behind-tried, behind-over, behind-more, behind-all, alike-passed}
 use Rattle.tuple_search.proofs.search.search.Reads as search′
 use Rattle.tuple_search.proofs.search.search.Kinds as search-kinds
 use Rattle.tuple_search.proofs.search.+search.Lts-search as lts
@@ -37,12 +35,9 @@ use Rattle.layout.proofs.bytes.byte_at.Reads as byte-at-reads
 use Rattle.tuple_search.proofs.search.+search.{statement}
 use Rattle.tuple_search.proofs.search.+search.Tie.{close}
 
--- `a` holds the arguments in order: the places to fill are left
+-- `a` holds the arguments in order: the number of places still to fill
 abbrev μ-search : Measures 8 search-kinds.ps ℕ
-μ-search κs a =
-    let place = a .1 .1 .1 .1 .1 .0 in
-    let chosen = a .1 .1 .1 .1 .1 .1 .0 in
-    length (chosen .now) - place
+μ-search κs a = a .1 .1 .1 .1 .1 .0
 
 -- what the search is given at the measure t, and what a call of it asks below t
 abbrev search-at : ℕ → In 8 search-kinds.ps
@@ -74,23 +69,12 @@ claims t = (
   search′.Post,
 )
 
--- the loop with the classes below k behind it
-record Behind (M : Model) (q : Question) (place : ℕ) (upper chosen₀ chosen tried : List ℕ) (tries k : ℕ) : Type 0 where
-  within : k ≤ M .classes
-  few : tries ≤ k
-  restored : set chosen place (getD chosen₀ place 0) ≡ chosen₀
-  long : length tried ≡ maxClasses
-  passed : Tried M q (take place chosen₀) (drop (place + 1) upper) (take tries tried)
-  left :
-      stopIn M q (take place chosen₀) (drop place upper)
-      ≡ remaining M q (take place chosen₀) (getD upper place 0) (drop (place + 1) upper) k
-
 abbrev Inv-loop : lts.InvT-loop
-Inv-loop bytes b scratch q upper place chosen₀ order admits holds set lead n led c classes is-last before tried₀ tries₀ k₀ chosen tried tries k =
-    Behind (modelOf bytes) q place upper chosen₀ chosen tried tries k
+Inv-loop bytes b scratch q upper unfilled chosen₀ order admits holds set lead n place led c classes is-last before tried₀ tries₀ k₀ chosen tried tries k =
+    Behind (modelOf bytes) q (length chosen₀ - unfilled) upper chosen₀ chosen tried tries k
 
 abbrev μ-loop : lts.MeasureT-loop
-μ-loop bytes b scratch q upper place chosen₀ order admits holds set lead n led c classes is-last before tried₀ tries₀ k₀ chosen tried tries k = b .classes - k
+μ-loop bytes b scratch q upper unfilled chosen₀ order admits holds set lead n place led c classes is-last before tried₀ tries₀ k₀ chosen tried tries k = b .classes - k
 
 module _ (t : ℕ) where
   -- where the call began, from the code behind the first test, and from the loop
@@ -103,63 +87,46 @@ module _ (t : ℕ) where
   abbrev start : lts.At-loop (claims t) (search-at t) search′.Post Inv-loop μ-loop → lts.Start (claims t) (search-at t) search′.Post Inv-loop μ-loop
   start l = begun (placed l)
 
+  -- the place that is filled next
+  abbrev next : lts.Start (claims t) (search-at t) search′.Post Inv-loop μ-loop → ℕ
+  next s = length (s .args .chosen .now) - s .args .unfilled
+
   stops-filled-requires : lts.Need-stops-filled-requires (claims t) (search-at t) search′.Post Inv-loop μ-loop
   stops-filled-requires c κs =
-      let p = c .before .before .before .before .before .before .pre .1 in
-      (p .0, (p .1 .0 .ordered, (p .1 .0 .admitting, (rw (c .before .if1 .taken) at (p .1 .1 .1 .0), p .1 .1 .1 .1))))
+      let s = c .before .before .before .before .before .before in
+      let p = s .pre .1 in
+      let all : next s ≡ length (s .args .chosen .now) = omega arith in
+      (p .0, (p .1 .0 .ordered, (p .1 .0 .admitting, (rw all at (p .1 .1 .1 .1 .0), p .1 .1 .1 .1 .1))))
 
   returns : lts.Need-returns (claims t) (search-at t) search′.Post Inv-loop μ-loop
   returns c =
       let s = c .before .before .before .before .before .before .before in
       let a = s .args in
       let p = s .pre .1 in
-      let all : a .place ≡ length (a .chosen .now) = c .before .before .if1 .taken in
-      let filled : take (a .place) (a .chosen .now) ≡ a .chosen .now = ap (λ (i : ℕ). take i (a .chosen .now)) all ∙ take-length (a .chosen .now) in
-      let none = no-place (a .upper .now) (a .place) (p .1 .1 .0 .arity ∙ sym (p .1 .1 .1 .0 .arity) ∙ sym all) in
-      (refl, rw (filled, none) (filled-ends _ _ _ _ (c .stops-filled .ensures)))
+      let all : next s ≡ length (a .chosen .now) = omega arith in
+      let rest = no-place (a .upper .now) (length (a .chosen .now)) (p .1 .1 .0 .arity ∙ sym (p .1 .1 .1 .1 .0 .arity)) in
+      (refl, rw (all, take-length (a .chosen .now), rest) (filled-ends _ _ _ _ (c .stops-filled .ensures)))
 
-  -- the next place is one of the function's, and of the upper classes
-  place-below : (e : lts.Else1 (claims t) (search-at t) search′.Post Inv-loop μ-loop) → let a = begun e .args in (a .place < length (a .chosen .now)) × (a .place < length (a .upper .now))
+  -- it is one of the function's, of the upper classes and of the layout
+  place-below : (e : lts.Else1 (claims t) (search-at t) search′.Post Inv-loop μ-loop)
+      → let a = begun e .args in (next (begun e) < length (a .chosen .now)) × (next (begun e) < length (a .upper .now)) × (length (a .chosen .now) ≤ places)
+      × (1 ≤ a .unfilled)
   place-below e =
       let p = begun e .pre .1 in
-      let below : begun e .args .place < length (begun e .args .chosen .now) = omega (arith, e .if1 .left, p .1 .1 .1 .0 .within) in
-      (below, omega (arith, below, p .1 .1 .0 .arity, p .1 .1 .1 .0 .arity))
+      let g = p .1 .1 .1 .1 .0 in
+      let below : next (begun e) < length (begun e .args .chosen .now) = omega (arith, e .if1 .left, p .1 .1 .1 .0) in
+      (below, omega (arith, p .1 .1 .0 .arity, g .arity), filling-places (p .0 .opened) g, omega (arith, e .if1 .left))
 
   lead-of-requires : lts.Need-lead-of-requires (claims t) (search-at t) search′.Post Inv-loop μ-loop
   lead-of-requires c κs =
       let p = begun c .pre .1 in
-      let o = p .0 .opened in
-      (o, (p .1 .0 .ordered, (filling-places o (p .1 .1 .1 .0), p .1 .1 .1 .1)))
-
-  add-is-last : lts.Need-add-is-last (claims t) (search-at t) search′.Post Inv-loop μ-loop
-  add-is-last c =
-      let e = c .before .before in
-      let p = begun e .pre .1 in
-      omega (arith, place-below e, filling-places (p .0 .opened) (p .1 .1 .1 .0))
-
-  loop-holds : lts.Need-loop-holds (claims t) (search-at t) search′.Post Inv-loop μ-loop
-  loop-holds c =
-      let e = c .before .before .before in
-      let a = begun e .args in
-      record {
-        within = omega (arith, wellformed-of (begun e .pre .1 .0 .opened) .classes-some);
-        few = omega arith;
-        restored = set-getD (a .chosen .now) (a .place) 0;
-        long = refl;
-        passed = tried-none;
-        left = search-opens _ _ _ _ _ (place-below e .1);
-      }
-
-  -- what the loop has of the tuple: as many places, and those before the next one as they were
-  chosen-kept : (l : lts.At-loop (claims t) (search-at t) search′.Post Inv-loop μ-loop) → let a = start l .args in
-      (length (l .loop .chosen) ≡ length (a .chosen .now)) × (take (a .place) (l .loop .chosen) ≡ take (a .place) (a .chosen .now))
-  chosen-kept l = let a = start l .args in restored-kept (a .place) _ (l .loop .chosen) (a .chosen .now) (l .loop .inv .restored)
+      (p .0 .opened, (p .1 .0 .ordered, (place-below c .2, p .1 .1 .1 .1 .1)))
 
   -- the upper class at the place and the class tried are the bundle's, and fit a byte; the place is one of the layout's
   bounds : (c : lts.In-loop (claims t) (search-at t) search′.Post Inv-loop μ-loop)
       → let l = c .before in
       let a = start l .args in
-      (l .before .before .byte-at .result < a .b .classes) × (l .loop .k < a .b .classes) × (a .b .classes ≤ maxClasses) × (a .place < places)
+      (l .before .before .byte-at .result < a .b .classes) × (l .loop .k < a .b .classes) × (a .b .classes ≤ maxClasses) × (next (start l) < places)
   unfolding byte
   bounds c =
       let l = c .before in
@@ -170,18 +137,15 @@ module _ (t : ℕ) where
         omega (arith, l .before .before .byte-at .ensures .0, upper),
         omega arith,
         placed-of (p .0 .opened) .classes-limit,
-        omega (arith, place-below e, filling-places (p .0 .opened) (p .1 .1 .1 .0)),
+        omega (arith, place-below e),
       )
 
-  is-candidate-requires : lts.Need-is-candidate-requires (claims t) (search-at t) search′.Post Inv-loop μ-loop
-  is-candidate-requires c κs = let h = bounds c in (start (c .before) .pre .1 .0, (h .0, h .1))
-
-  -- `is_candidate` answers whether class k is one of those to try, of which there are no more than classes
+  -- `is_candidate` answers whether class k, one of the bundle's, is to be tried
   met : (c : lts.After-is-candidate (claims t) (search-at t) search′.Post Inv-loop μ-loop)
       → let l = c .before .before in
       let a = start l .args in
       let M = modelOf (a .bytes .now) in
-      (c .is-candidate .result ≡ candidateClass M (getD (a .upper .now) (a .place) 0) (l .loop .k)) × (l .loop .k < M .classes)
+      (c .is-candidate .result ≡ candidateClass M (getD (a .upper .now) (next (start l)) 0) (l .loop .k)) × (l .loop .k < M .classes)
   unfolding byte
   met c =
       let l = c .before .before in
@@ -191,39 +155,24 @@ module _ (t : ℕ) where
         omega arith,
       )
 
+  -- there is room for one more tried class
+  tries-below : (c : lts.In-loop (claims t) (search-at t) search′.Post Inv-loop μ-loop) → c .before .loop .tries < maxClasses
+  tries-below c = omega (arith, bounds c, c .before .loop .inv .few)
+
   loop-again : lts.Need-loop-again (claims t) (search-at t) search′.Post Inv-loop μ-loop
   loop-again c =
-      let l = c .before .before .before .loop in
+      let l = c .before .before .before in
       let m = met (c .before) in
-      record {
-        within = omega (arith, m .1);
-        few = omega arith;
-        restored = l .inv .restored;
-        long = l .inv .long;
-        passed = l .inv .passed;
-        left = l .inv .left ∙ class-skipped _ _ _ _ _ (l .k) (m .1) (sym (m .0) ∙ not-true _ (c .if2 .taken));
-      }
-
-  -- the classes tried so far are the bundle's
-  tried-class : (l : lts.At-loop (claims t) (search-at t) search′.Post Inv-loop μ-loop) → (j : ℕ) → j < l .loop .tries
-      → List·Memᴰ (getD (l .loop .tried) j 0) (take (l .loop .tries) (l .loop .tried)) × (getD (l .loop .tried) j 0 < modelOf (start l .args .bytes .now) .classes)
-  tried-class l j h =
-      let M = modelOf (start l .args .bytes .now) in
-      let inv = l .loop .inv in
-      let tried = take (l .loop .tries) (l .loop .tried) in
-      let room = wellformed-of (start l .pre .1 .0 .opened) .classes-limit in
-      let inside : j < length tried = omega (arith, length-take-le (l .loop .tries) (l .loop .tried) (omega (arith, inv .within, inv .few, inv .long))) in
-      let same = getD-take (l .loop .tries) (l .loop .tried) j 0 h in
-      (rw same at (getD-mem tried j 0 inside), rw same at (class-below M tried (inv .passed .classes) j inside))
+      behind-over (wellformed-of (start l .pre .1 .0 .opened)) (l .loop .inv) (m .1) (class-skipped _ _ _ _ _ (l .loop .k) (m .1) (sym (m .0) ∙ not-true _ (c .if2 .taken)))
 
   tried-alike-requires : lts.Need-tried-alike-requires (claims t) (search-at t) search′.Post Inv-loop μ-loop
   tried-alike-requires c κs =
       let i = c .before .before .before in
       let l = i .before in
       let h = bounds i in
-      let inv = l .loop .inv in
-      let counts = counts-of (start l .pre .1 .0 .opened) in
-      (h .3, (inv .long, (omega (arith, h, inv .few), ((λ j q. omega (arith, h, tried-class l j q .1)), omega (arith, h)))))
+      let o = start l .pre .1 .0 .opened in
+      let counts = counts-of o in
+      (h .3, (l .loop .inv .long, (omega (arith, h, l .loop .inv .few), ((λ j q. omega (arith, h, behind-tried (wellformed-of o) (l .loop .inv) j q .1)), omega (arith, h)))))
 
   loop-again-2 : lts.Need-loop-again-2 (claims t) (search-at t) search′.Post Inv-loop μ-loop
   loop-again-2 c =
@@ -232,29 +181,24 @@ module _ (t : ℕ) where
       let inv = l .loop .inv in
       let m = met (e .before) in
       let p = start l .pre .1 in
+      let w = wellformed-of (p .0 .opened) in
       let (j, q, r) = c .before .tried-alike .ensures (c .if3 .taken) in
-      let (member, bound) = tried-class l j q in
-      record {
-        within = omega (arith, m .1);
-        few = omega (arith, inv .few);
-        restored = inv .restored;
-        long = inv .long;
-        passed = inv .passed;
-        left =
-            inv .left
-            ∙ class-passed _ _ _ _ _ (l .loop .k) (m .1) (sym (m .0) ∙ not-false _ (e .if2 .left))
-            (alike-passed (wellformed-of (p .0 .opened)) (p .1 .0) (p .1 .1 .1 .0) (bounds (e .before .before) .3) (inv .passed) _ (l .loop .k) bound (m .1) member r);
-      }
+      let (member, bound) = behind-tried w inv j q in
+      let none = alike-passed w (p .1 .0) (p .1 .1 .1 .1 .0) (bounds (e .before .before) .3) (inv .passed) _ (l .loop .k) bound (m .1) member r in
+      behind-over w inv (m .1) (class-passed _ _ _ _ _ (l .loop .k) (m .1) (sym (m .0) ∙ not-false _ (e .if2 .left)) none)
 
-  -- there is room for one more tried class
-  tries-below : (c : lts.In-loop (claims t) (search-at t) search′.Post Inv-loop μ-loop) → c .before .loop .tries < maxClasses
-  tries-below c = omega (arith, bounds c, c .before .loop .inv .few)
+  -- the tuple has the next place
+  room : (l : lts.At-loop (claims t) (search-at t) search′.Post Inv-loop μ-loop) → next (start l) < length (l .loop .chosen)
+  room l = omega (arith, place-below (placed l), behind-kept (wellformed-of (start l .pre .1 .0 .opened)) (l .loop .inv) .0)
 
-  lead-with-requires : lts.Need-lead-with-requires (claims t) (search-at t) search′.Post Inv-loop μ-loop
-  lead-with-requires c κs =
-      let i = c .before .before .before .before .before .before .before in
-      let h = bounds i in
-      (start (i .before) .pre .1 .0, (h .3, h .1))
+  -- the tuple with class k at the next place: as long, so that one place less is to be filled
+  filled-next : (l : lts.At-loop (claims t) (search-at t) search′.Post Inv-loop μ-loop) → let s = start l in
+      let chosen = set (l .loop .chosen) (next s) (l .loop .k) in
+      (length chosen ≡ length (s .args .chosen .now)) × (length chosen - (s .args .unfilled - 1) ≡ next s + 1)
+  filled-next l =
+      let s = start l in
+      let same = length-set (l .loop .chosen) (next s) (l .loop .k) ∙ behind-kept (wellformed-of (s .pre .1 .0 .opened)) (l .loop .inv) .0 in
+      (same, omega (arith, same, place-below (placed l)))
 
   search-requires : lts.Need-search-requires (claims t) (search-at t) search′.Post Inv-loop μ-loop
   search-requires c κs =
@@ -265,49 +209,36 @@ module _ (t : ℕ) where
       let s = start l in
       let p = s .pre .1 in
       let o = p .0 .opened in
-      let below = place-below (placed l) .0 in
-      let inv = l .loop .inv in
+      let w = wellformed-of o in
       let h = bounds i in
-      let kept = chosen-kept l in
+      let (same, less) = filled-next l in
+      let kept = behind-kept w (l .loop .inv) in
       let counts = counts-of o in
       let part = rw (u .before .row-at .ensures .0) at (u .both .ensures) in
-      let g = filling-kept o (p .1 .1 .1 .0) (l .loop .chosen) (kept .0) (kept .1) in (
-        simp length-set (omega (arith, s .pre .0, kept .0)),
-        (
-          p .0,
-          (
-            p .1 .0,
-            (
-              p .1 .1 .0,
-              (
-                filling-more o g (p .1 .0 .ordered) (p .1 .0 .admitting) (l .loop .k) (omega (arith, below, kept .0)) (h .1) part,
-                rw (length-set (l .loop .chosen) (s .args .place) (l .loop .k), kept .0)
-                    (led-part (wellformed-of o) (p .1 .0 .admitting) _ _ _ _ _ _ _ (h .3) (omega (arith, h)) (l .before .before .before .lead-of .ensures) (λ q. n .lead-with .ensures (omega arith)) part),
-              ),
-            ),
-          ),
-        ),
-      )
+      let g = filling-kept o (p .1 .1 .1 .1 .0) (l .loop .chosen) (kept .0) (kept .1) in
+      let filling = filling-more o g (p .1 .0 .ordered) (p .1 .0 .admitting) (l .loop .k) (room l) (h .1) part in
+      let led =
+      led-part w (p .1 .0 .admitting) _ _ _ _ _ _ _ (h .3) (omega (arith, h)) (l .before .before .before .lead-of .ensures) (λ q. n .lead-with .ensures (omega arith)) part in
+      (omega (arith, s .pre .0), (p .0, (p .1 .0, (p .1 .1 .0, (omega (arith, same, less), (rw less filling, rw same led))))))
 
   -- a search with class k at the next place ends as one with the places before it and k filled
   ended : (c : lts.After-search (claims t) (search-at t) search′.Post Inv-loop μ-loop)
       → let l = c .before .before .before .before .before .before .before .before .before .before .before .before in
-      let a = start l .args in
-      let M = modelOf (a .bytes .now) in
+      let s = start l in
       let after = c .search .last .1 .1 .1 .1 .1 .1 .0 in
-      let filled = take (a .place) (a .chosen .now) in
-      (length after ≡ length (a .chosen .now))
-      × Ends M (a .q) (filled ++ (l .loop .k ∷ [])) (drop (a .place + 1) (a .upper .now)) (set (l .loop .chosen) (a .place) (l .loop .k)) after (c .search .result)
+      let filled = take (next s) (s .args .chosen .now) ++ (l .loop .k ∷ []) in
+      (length after ≡ length (s .args .chosen .now))
+      × Ends (modelOf (s .args .bytes .now)) (s .args .q) filled (drop (next s + 1) (s .args .upper .now)) (set (l .loop .chosen) (next s) (l .loop .k)) after (c .search .result)
   ended c =
       let l = c .before .before .before .before .before .before .before .before .before .before .before .before in
-      let a = start l .args in
-      let chosen = l .loop .chosen in
+      let s = start l in
       let k = l .loop .k in
-      let kept = chosen-kept l in
-      let more : take (a .place + 1) (set chosen (a .place) k) ≡ take (a .place) (a .chosen .now) ++ (k ∷ []) =
-      chosen-more chosen (a .place) k (omega (arith, kept .0, place-below (placed l) .0)) ∙ ap (λ (xs : List ℕ). xs ++ (k ∷ [])) (kept .1) in
+      let (same, less) = filled-next l in
+      let kept = behind-kept (wellformed-of (s .pre .1 .0 .opened)) (l .loop .inv) in
+      let more : take (next s + 1) (set (l .loop .chosen) (next s) k) ≡ take (next s) (s .args .chosen .now) ++ (k ∷ []) =
+      chosen-more (l .loop .chosen) (next s) k (room l) ∙ ap (λ (xs : List ℕ). xs ++ (k ∷ [])) (kept .1) in
       let r = c .search .ensures in
-      (r .0 ∙ length-set chosen (a .place) k ∙ kept .0, rw more at (r .1))
+      (r .0 ∙ same, rw (less, more) at (r .1))
 
   returns-2 : lts.Need-returns-2 (claims t) (search-at t) search′.Post Inv-loop μ-loop
   returns-2 c =
@@ -315,48 +246,25 @@ module _ (t : ℕ) where
       let e = u .before .before .before .before .before .before .before .before .before in
       let l = e .before .before .before in
       let m = met (e .before) in
-      let q = ended u in (
-        q .0,
-        class-stops _ _ _ _ _ (l .loop .k) (m .1) (sym (m .0) ∙ not-false _ (e .if2 .left)) _ _ (u .search .result) (q .1) (c .if4 .taken) _ (start l .args .chosen .now)
-            (l .loop .inv .left),
-      )
+      let q = ended u in
+      let tried = sym (m .0) ∙ not-false _ (e .if2 .left) in
+      (q .0, class-stops _ _ _ _ _ (l .loop .k) (m .1) tried _ _ (u .search .result) (q .1) (c .if4 .taken) _ (start l .args .chosen .now) (l .loop .inv .left))
 
   loop-again-3 : lts.Need-loop-again-3 (claims t) (search-at t) search′.Post Inv-loop μ-loop
   loop-again-3 c =
       let u = c .before .before .before in
       let e = u .before .before .before .before .before .before .before .before .before in
       let l = e .before .before .before in
-      let a = start l .args in
-      let inv = l .loop .inv in
       let m = met (e .before) in
-      let none = passed-through _ _ _ _ _ _ (u .search .result) (ended u .1) (c .if4 .left) in
-      record {
-        within = omega (arith, m .1);
-        few = omega (arith, inv .few);
-        restored = ap (λ (xs : List ℕ). set xs (a .place) (getD (a .chosen .now) (a .place) 0)) (none .1) ∙ set-set (l .loop .chosen) (a .place) _ _ ∙ inv .restored;
-        long = simp length-set (inv .long);
-        passed =
-            subst (Tried _ _ _ _) (sym (chosen-more (l .loop .tried) (l .loop .tries) (l .loop .k) (omega (arith, tries-below (e .before .before), inv .long))))
-            (tried-more (inv .passed) (l .loop .k) (m .1) (none .0));
-        left = inv .left ∙ class-passed _ _ _ _ _ (l .loop .k) (m .1) (sym (m .0) ∙ not-false _ (e .if2 .left)) (none .0);
-      }
+      let (nothing, same) = passed-through _ _ _ _ _ _ (u .search .result) (ended u .1) (c .if4 .left) in
+      behind-more (wellformed-of (start l .pre .1 .0 .opened)) (l .loop .inv) (m .1) (sym (m .0) ∙ not-false _ (e .if2 .left)) nothing same
 
   returns-3 : lts.Need-returns-3 (claims t) (search-at t) search′.Post Inv-loop μ-loop
   returns-3 c =
       let l = c .before in
-      let s = start l in
-      let a = s .args in
-      let M = modelOf (a .bytes .now) in
-      let counts = counts-of (s .pre .1 .0 .opened) in
-      let all : l .loop .k ≡ M .classes = omega (arith, l .loop .inv .within) in (
-        ap length (l .loop .inv .restored),
-        (
-          l .loop .inv .left
-              ∙ ap (remaining M (a .q) (take (a .place) (a .chosen .now)) (getD (a .upper .now) (a .place) 0) (drop (a .place + 1) (a .upper .now))) all
-              ∙ search-ends _ _ _ _ _,
-          l .loop .inv .restored,
-        ),
-      )
+      let o = start l .pre .1 .0 .opened in
+      let counts = counts-of o in
+      (ap length (l .loop .inv .restored), behind-all (wellformed-of o) (l .loop .inv) (omega (arith, l .loop .inv .within)))
 
 pub +search-spec : {M : Type 1} → statement M
 +search-spec =
@@ -370,13 +278,13 @@ pub +search-spec : {M : Type 1} → statement M
     (stops-filled-requires t)
     (λ c. refl)
     (returns t)
+    (λ c. begun t c .pre .1 .1 .1 .1 .0)
     (lead-of-requires t)
     (λ c κs. place-below t (c .before) .1)
-    (add-is-last t)
     (λ c. place-below t (c .before .before .before) .0)
-    (loop-holds t)
+    (λ c. behind-none _ _ (place-below t (c .before .before .before) .1) refl)
     (λ c. omega arith)
-    (is-candidate-requires t)
+    (λ c κs. let h = bounds t c in (start t (c .before) .pre .1 .0, (h .0, h .1)))
     (λ c. omega arith)
     (loop-again t)
     (tried-alike-requires t)
@@ -385,17 +293,17 @@ pub +search-spec : {M : Type 1} → statement M
     (λ c. omega (arith, tries-below t (c .before .before .before .before .before)))
     (λ c. tries-below t (c .before .before .before .before .before))
     (λ c. omega (arith, bounds t (c .before .before .before .before .before)))
-    (λ c. let l = c .before .before .before .before .before .before in omega (arith, place-below t (placed t l), chosen-kept t l .0))
+    (λ c. room t (c .before .before .before .before .before .before))
     (λ c κs. let h = bounds t (c .before .before .before .before .before) in (h .3, omega (arith, h)))
     (λ c κs. c .row-at .ensures .1)
-    (lead-with-requires t)
-    (λ c. omega (arith, bounds t (c .before .before .before .before .before .before .before .before)))
+    (λ c κs. let i = c .before .before .before .before .before .before .before in let h = bounds t i in (start t (i .before) .pre .1 .0, (h .3, h .1)))
+    (λ c. place-below t (placed t (c .before .before .before .before .before .before .before .before .before)) .3)
     (search-requires t)
     (λ c. ended t (c .before .before .before) .0)
     (returns-2 t)
     (λ c. omega (arith, tries-below t (c .before .before .before .before .before .before .before .before .before .before .before .before .before .before)))
     (λ c. omega arith)
     (loop-again-3 t)
-    (λ c. omega (arith, place-below t (placed t (c .before)) .0, chosen-kept t (c .before) .0))
+    (λ c. room t (c .before))
     (λ c. ap length (c .before .loop .inv .restored))
     (returns-3 t))

@@ -8,7 +8,6 @@ use borrow.Author.Needs.{needs}
 use Rattle.rules.specs.Model.{modelOf}
 use Rattle.rules.specs.Lookup.{found, lookup}
 use Rattle.layout.proofs.Opened.{counts-of, wellformed-of}
-use Rattle.dispatch.specs.Found.{foundOf}
 use Rattle.method_sets.specs.Sets.{LedBy}
 use Rattle.tuple_search.specs.Questions.{functionOf}
 use Rattle.tuple_search.proofs.Leading.{lead-found}
@@ -28,7 +27,6 @@ leading c m h led =
     lead-found (wellformed-of o) (p .1 .0) g (p .1 .1 .0) (filling-places o g) m (omega arith) led
 
 stops-at-requires : tie.Need-stops-at-requires
-unfolding foundOf
 stops-at-requires c κs =
     let s = c .before .before .before .before .before in
     let g = s .pre .1 .1 .1 .0 in
@@ -41,7 +39,6 @@ lead-of-requires c κs =
     (o, (p .1 .0, (filling-places o (p .1 .1 .1 .0), p .1 .1 .1 .1)))
 
 stops-at-requires-2 : tie.Need-stops-at-requires-2
-unfolding foundOf
 stops-at-requires-2 c κs =
     let u = c .before .before in
     let s = u .before .before .before .before .before .before in

@@ -29,12 +29,4 @@ returns c =
     ∙ ap₂ (λ (x y : ℕ). overwrite rowBytes (typeByte M (x ∷ y ∷ [])) (g .args .row .now)) (c .before .before .before .before .before .before .before .before .before .specialiser .ensures .0) (c .before .before .before .before .declared .ensures .0)
 
 pub arg-row-spec : {M : Type 1} → statement M
-arg-row-spec =
-    tie.close
-    (tie.spec
-    (λ c κs. search needs)
-    (λ c κs. search needs)
-    (λ c κs. search needs)
-    join-requires
-    (λ c. search needs)
-    returns)
+arg-row-spec = tie.close (tie.spec (λ c κs. search needs) (λ c κs. search needs) (λ c κs. search needs) join-requires (λ c. search needs) returns)

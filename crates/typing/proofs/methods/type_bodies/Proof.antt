@@ -9,7 +9,6 @@ use Rattle.rules.specs.Model.{modelOf}
 use Rattle.rules.specs.Types.{typed, typeBody}
 use Rattle.layout.proofs.Opened.{counts-of}
 use Rattle.typing.specs.Bodies.{typingOf}
-use Rattle.typing.specs.Methods.{bodiesSaid}
 use Rattle.typing.proofs.Broken.{method-broken, methods-typed}
 use Rattle.typing.proofs.methods.type_bodies.Statement.{statement}
 use Rattle.typing.proofs.methods.type_bodies.Tie as tie
@@ -21,7 +20,7 @@ abbrev μ-loop : tie.MeasureT-loop
 μ-loop bytes b scratch methods m₀ m = methods - m
 
 returns : tie.Need-returns Inv-loop μ-loop
-unfolding bodiesSaid typingOf
+unfolding typingOf
 returns c =
     let t = c .before .before .before in
     let l = t .before .before in
@@ -37,7 +36,6 @@ loop-again c =
     (search needs, below-more _ _ (l .loop .inv .1) (sym (t .type-body .ensures) ∙ ap typingOf (c .enum-told .given .1)))
 
 returns-2 : tie.Need-returns-2 Inv-loop μ-loop
-unfolding bodiesSaid
 returns-2 c =
     let g = c .before .before .before .before in
     let n = counts-of (g .pre .opened) .methods in

@@ -30,5 +30,4 @@ unfolding isUnder ancestryOf
 returns-3 c = rw (met (c .before .before) Neither (c .enum-told3 .given .1))
 
 pub join-byte-spec : {M : Type 1} → statement M
-join-byte-spec =
-    tie.close (tie.spec (λ c κs. search needs) (λ c. search needs) (λ c. search needs) (λ c. search needs) returns returns-2 returns-3)
+join-byte-spec = tie.close (tie.spec (λ c κs. search needs) (λ c. search needs) (λ c. search needs) (λ c. search needs) returns returns-2 returns-3)

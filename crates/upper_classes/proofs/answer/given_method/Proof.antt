@@ -3,6 +3,7 @@
 use mathlib.Core.Path.{sym, _∙_}
 use borrow.Author.Needs.{needs}
 use borrow.Author.Tests.{not-true, not-false}
+use Rattle.method_sets.proofs.Rows.{tabled-none}
 use Rattle.upper_classes.proofs.Answers.{one-answer, some-fails-answer, several-answer}
 use Rattle.upper_classes.proofs.answer.given_method.Statement.{statement}
 use Rattle.upper_classes.proofs.answer.given_method.Tie as tie
@@ -42,7 +43,7 @@ given-method-spec =
     tie.close
     (tie.spec
     (λ c κs. search needs)
-    (λ c κs. search needs)
+    (λ c κs. (c .before .before .before .before .before .before .pre .0, (c .before .before .order-methods .ensures, tabled-none _ _ _)))
     some-stops-requires
     returns
     some-stops-requires-2

@@ -1,0 +1,5 @@
+pub mod Send
+pub mod Opening
+pub mod Failures
+pub mod Refusals
+pub mod Findings

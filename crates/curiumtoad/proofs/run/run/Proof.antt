@@ -1,0 +1,29 @@
+-- `curiumtoad::run::run` meets its contract: refused before its own rules, or the answer over the opened bundle.
+-- Assumes nothing.
+use borrow.Author.Needs.{needs}
+use mathlib.Core.Path.{ap}
+use Rattle.rules.specs.Calls.{runCall}
+use Rattle.preparation.specs.Begins.{beginningSaid}
+use Rattle.preparation.proofs.Called.{refused-early, ready}
+use Rattle.curiumtoad.proofs.run.run.Statement.{statement}
+use Rattle.curiumtoad.proofs.run.run.Tie as tie
+
+run-in-requires : tie.Need-run-in-requires
+run-in-requires c κs = let k = c .before .before in k .before .before .before .before .begin .ensures .prepared _ (k .b .given .1)
+
+returns : tie.Need-returns
+unfolding runCall
+returns c = let k = c .before .before .before in ready (k .before .before .before .before .begin .ensures) (k .b .given .1) _ (c .run-in .ensures)
+
+returns-2 : tie.Need-returns-2
+unfolding runCall
+returns-2 c = let k = c .before in refused-early (k .before .before .before .before .begin .ensures) (ap beginningSaid (k .found .given .1)) _
+
+returns-3 : tie.Need-returns-3
+unfolding runCall
+returns-3 c = refused-early (c .before .before .before .before .begin .ensures) (ap beginningSaid (c .enum-told .given .1)) _
+
+pub run-spec : {M : Type 1} → statement M
+run-spec =
+    tie.close
+    (tie.spec (λ c κs. search needs) (λ c. search needs) run-in-requires (λ c. search needs) (λ c. search needs) (λ c. search needs) returns (λ c. search needs) returns-2 (λ c. search needs) returns-3)
