@@ -1,4 +1,4 @@
--- The run of a send for a caller that has no branch for a send that finds no method, or two (M 9.4): the bundle is checked, and the send has to be covered,
+-- The run of a send for a caller that has no branch for a send that finds no method, or two (M 9.3): the bundle is checked, and the send has to be covered,
 -- before anything runs.
 -- Assumes nothing.
 use Prim.Native.Nat.{ℕ}
