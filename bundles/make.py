@@ -19,7 +19,7 @@ from rules import chart_text  # noqa: E402
 LISTS = ROOT / "crates" / "rules" / "specs" / "Samples.antt"
 TABLE = HERE / "README.md"
 PLACES = 3
-ARG, NEW, SEND = 0, 1, 2
+ARG, NEW, SEND, RESEND = range(4)
 
 
 def padded(classes):
@@ -129,7 +129,7 @@ SAMPLES = {
     "absent-result": bundle(ALONE, [0], [(0, [], 1)]),
     "empty-body": bundle(ALONE, [0], [(0, [], 0)], [(0, [], [], 0, [])]),
     "twin-methods": bundle(ALONE, [1], [], [(0, [0], [0], 0, [(ARG, 0)]), (0, [0], [0], 0, [(NEW, 0)])]),
-    "unknown-operation": bundle(ALONE, [0], [(0, [], 0)], [(0, [], [], 0, [(3, 0)])]),
+    "unknown-operation": bundle(ALONE, [0], [(0, [], 0)], [(0, [], [], 0, [(4, 0)])]),
     "no-method": bundle(ALONE, [0], [(0, [], 0)]),
     # Two signatures have no method, and the one body that there is ends with two values: the lower signature is named.
     "three-faults": bundle(ALONE, [0, 0, 0], [(0, [], 0), (1, [], 0)], [(2, [], [], 0, [(NEW, 0), (NEW, 0)])]),
@@ -152,6 +152,20 @@ SAMPLES = {
     "exact-match": bundle(
         [(ABSTRACT, []), *[(CONCRETE, [k - 1]) for k in range(1, 4)]], [2, 0], [(0, [1, 1], 1), (1, [], 1)],
         [(f, places, places, 1, [(NEW, 1)]) for f, places in [(0, [1, 1]), (0, [2, 2]), (1, [])]]),
+    # Method 1 overrides 0 and 2, of which 0 leads and resends in its turn; each passes the value that comes back to function 1.
+    "resend": bundle(
+        CHART, [2, 1], [(0, [1, 3], 5), (1, [5], 5)],
+        [*((0, args, args, 5, [(RESEND, 0), (SEND, 1)]) for args in [[2, 3], [2, 4]]), CHART_METHODS[2], (1, [5], [5], 5, [(ARG, 0)])]),
+    # The general method sends its function with class 1, and the special one resends to it: in a run that begins with class 0 the 32nd frame resends.
+    "resend-loop": bundle(chain(2), [1], [(0, [0], 0)], [(0, [0], [0], 0, [(NEW, 1), (SEND, 0)]), (0, [1], [1], 0, [(RESEND, 0)])]),
+    "resend-operand": bundle(chain(2), [1], [(0, [0], 0)], [(0, [0], [0], 0, [(ARG, 0)]), (0, [1], [1], 0, [(RESEND, 1)])]),
+    # The general method resends, and only the special one has a method to resend to: 25.
+    "no-overridden": bundle(chain(2), [1], [(0, [0], 0)], [(0, [c], [c], 0, [(RESEND, 0)]) for c in range(2)]),
+    # The method that settles the tie of chart-3 resends to the two that tie: 26.
+    "ambiguous-resend": bundle(CHART, [2], [(0, [2, 4], 5)], [*CHART_METHODS[:2], (0, [2, 4], [2, 4], 5, [(RESEND, 0)])]),
+    # A send finds the general method only with an argument that its declared class holds; the special one would resend another to it: 27.
+    "narrow-target": bundle(
+        [(ABSTRACT, []), (CONCRETE, [0]), (CONCRETE, [0])], [1], [(0, [0], 0)], [(0, [0], [1], 0, [(ARG, 0)]), (0, [2], [2], 0, [(RESEND, 0)])]),
 }
 
 
@@ -190,7 +204,7 @@ FURTHER = {
 }
 
 # The samples whose charts, of function 0, are among the files.
-CHARTED = ["chart-3", "chart-4", "chart-5", "no-concrete-class", "102-methods"]
+CHARTED = ["chart-3", "chart-4", "chart-5", "resend", "no-concrete-class", "102-methods"]
 
 # What each sample is, and the lines that the listing program has to print for it. They are written down from the rules and not worked out by any
 # program.
@@ -228,6 +242,12 @@ SHOWN = {
     "exact-match": (
         "accepted: (1, 1) and (2, 2) find methods written for exactly these classes, (1, 2), (2, 1) and (3, 3) find them too",
         ["classes 4 functions 2 signatures 2 methods 3", "accepted"]),
+    "resend": (
+        "accepted: methods 0 and 1 resend, 1 to 0 and 0 to 2, and each goes on with the value that comes back",
+        ["classes 8 functions 2 signatures 2 methods 4", "accepted"]),
+    "resend-loop": (
+        "accepted: a method that sends its own function, and one that resends to it",
+        ["classes 2 functions 1 signatures 1 methods 2", "accepted"]),
     "23-bytes": (
         "refused by 1: a byte short of a directory",
         ["refused 1"]),
@@ -280,11 +300,14 @@ SHOWN = {
         "refused by 8: two methods of one function have equal specialisers",
         ["refused 8 record 1"]),
     "unknown-operation": (
-        "refused by 9: the body has operation 3",
+        "refused by 9: the body has operation 4",
         ["refused 9 record 0"]),
     "absent-argument": (
         "refused by 9: ARG of a second argument, where the function has one",
         ["refused 9 record 0"]),
+    "resend-operand": (
+        "refused by 9: RESEND with operand 1",
+        ["refused 9 record 1"]),
     "no-method": (
         "refused by 10: a signature without arguments, and no method at all",
         ["classes 1 functions 1 signatures 1 methods 0", "refused 10 signature 0 send 0"]),
@@ -330,6 +353,15 @@ SHOWN = {
     "loose-result": (
         "refused by 17: the body's value need not be of the result class",
         ["classes 2 functions 1 signatures 1 methods 1", "refused 17 method 0 at 1"]),
+    "no-overridden": (
+        "refused by 25: the method that resends is the most general one",
+        ["classes 2 functions 1 signatures 1 methods 2", "refused 25 method 0 at 0"]),
+    "ambiguous-resend": (
+        "refused by 26: the method that resends overrides two, and neither leads",
+        ["classes 8 functions 1 signatures 1 methods 3", "refused 26 method 2 at 0"]),
+    "narrow-target": (
+        "refused by 27: the method resent to declares a class that does not hold the argument",
+        ["classes 3 functions 1 signatures 1 methods 2", "refused 27 method 1 at 0"]),
 }
 
 

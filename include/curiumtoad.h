@@ -11,7 +11,8 @@
  * include/example.c is a program to begin with.
  *
  * A function returns CURIUMTOAD_OK where the call answers, else the number of the refusal or of the run's ending. Each call writes all eight values;
- * those that are not named below are 0. Numbers are tried in the order 1 to 9, 19, 20, 18, then the rest; those of a chart, 21, 22 and 23, in this order.
+ * those that are not named below are 0. Numbers are tried in the order 1 to 9, 19, 20, 18, then the rest; those of a chart, 21, 22 and 23, in this order,
+ * and those of a resend, 25, 26 and 27, likewise.
  *
  * bundle is the bundle's bytes, and size their count; it is never written. A function, a class, a signature or a method is its number in the bundle; a
  * function of fewer than three arguments has 0 at its unused places. Numbers that are not there are refused by 18, the line of a chart by 22, so any may be
@@ -41,8 +42,9 @@
 #include <stddef.h>
 #include <stdint.h>
 
-/* Raised by each change of the bundle's layout, of what scratch, row or values hold or how large they are, or of the arguments of a function. */
-#define CURIUMTOAD_VERSION 4
+/* Raised by each change of the bundle's layout or of the operations of its code, of what scratch, row or values hold or how large they are, of the numbers
+ * that a function returns, or of its arguments. */
+#define CURIUMTOAD_VERSION 5
 
 #define CURIUMTOAD_BUNDLE_BYTES 65535  /* the most that a bundle may have */
 #define CURIUMTOAD_SCRATCH_BYTES 2048
@@ -69,7 +71,7 @@ enum curiumtoad_number {
     CURIUMTOAD_BAD_SIGNATURE = 6,
     CURIUMTOAD_BAD_METHOD = 7,
     CURIUMTOAD_TWIN_METHOD = 8,      /* a method with the specialisers of an earlier one of its function */
-    CURIUMTOAD_BAD_CODE = 9,         /* a method's code */
+    CURIUMTOAD_BAD_CODE = 9,         /* a method's code: an operation above 3, or an operand that names nothing; of a resend, one that is not 0 */
 
     /* A send fails, or breaks a signature. These have the send, and the signature before it from check and witness. */
     CURIUMTOAD_NO_METHOD = 10,       /* no method applies */
@@ -77,7 +79,7 @@ enum curiumtoad_number {
     CURIUMTOAD_NARROW_DECLARED = 12, /* a declared class does not hold its argument; with the method */
     CURIUMTOAD_WIDE_RESULT = 13,     /* the method's result class is not under the signature's; with the method */
 
-    /* A body breaks a rule. These have method and instruction; a send type call has no values with 16. */
+    /* A body breaks a rule, as it does by 25 to 27. These have method and instruction; a send type call has no values with 16. */
     CURIUMTOAD_BAD_STACK = 14,       /* too few or too many values */
     CURIUMTOAD_ABSTRACT_NEW = 15,    /* an abstract class made */
     CURIUMTOAD_NO_LICENCE = 16,      /* a send that no signature licenses */
@@ -90,7 +92,13 @@ enum curiumtoad_number {
     CURIUMTOAD_NOT_BINARY = 21,      /* a chart of a function that has not two arguments */
     CURIUMTOAD_NO_LINE = 22,         /* a line past the last of the chart */
     CURIUMTOAD_SHORT_LINE = 23,      /* the buffer of a line */
-    CURIUMTOAD_NO_CONCRETE = 24      /* an upper class with no concrete class under it */
+    CURIUMTOAD_NO_CONCRETE = 24,     /* an upper class with no concrete class under it */
+
+    /* A resend fails, in a check or in a run. It hands the arguments of a method on to one that this method overrides: another of its function, each of
+     * whose specialisers is above the method's own. These have the method that resends, and the instruction. */
+    CURIUMTOAD_NO_OVERRIDDEN = 25,   /* the method overrides no other */
+    CURIUMTOAD_AMBIGUOUS_RESEND = 26, /* none of those that it overrides leads */
+    CURIUMTOAD_NARROW_TARGET = 27    /* a declared class of the one that leads does not hold the argument */
 };
 
 /* Which of the values holds what. */
@@ -145,7 +153,7 @@ enum curiumtoad_place {
     CURIUMTOAD_AT_BROKEN_METHOD = 5,
     CURIUMTOAD_AT_BROKEN_RIVAL = 6,
 
-    /* 14 to 17; the end of a body counts as one instruction more */
+    /* 14 to 17 and 25 to 27; the end of a body counts as one instruction more */
     CURIUMTOAD_AT_BODY_METHOD = 0,
     CURIUMTOAD_AT_BODY_INSTRUCTION = 1,
 
@@ -171,7 +179,7 @@ enum curiumtoad_rough_answer {
 enum curiumtoad_ending {
     CURIUMTOAD_ENDING_VALUE = 0,     /* with a value, whose class is at CURIUMTOAD_AT_CLASS */
     CURIUMTOAD_ENDING_SPENT = 1,     /* the count of steps was used up */
-    CURIUMTOAD_ENDING_DEEP = 2       /* a 33rd frame was needed */
+    CURIUMTOAD_ENDING_DEEP = 2       /* a 33rd frame was needed, for a send or a resend */
 };
 
 /* Why run_accepted gives 18. */
@@ -208,7 +216,7 @@ uint8_t curiumtoad_send_type(const uint8_t *bundle, size_t size, uint8_t *scratc
                              uint8_t *row, size_t row_size,
                              uint64_t function, uint64_t a0, uint64_t a1, uint64_t a2, uint64_t *values);
 
-/* The check of the whole bundle. 0: accepted. Else 1 to 17, 19: the lowest broken signature with its first broken tuple, by class
+/* The check of the whole bundle. 0: accepted. Else 1 to 17, 19, 25 to 27: the lowest broken signature with its first broken tuple, by class
  * numbers with the leftmost argument turning slowest, or with none the lowest broken method and its first broken instruction. */
 uint8_t curiumtoad_check(const uint8_t *bundle, size_t size, uint8_t *scratch, size_t scratch_size, uint64_t *values);
 
@@ -220,7 +228,7 @@ uint8_t curiumtoad_witness(const uint8_t *bundle, size_t size, uint8_t *scratch,
 uint8_t curiumtoad_body(const uint8_t *bundle, size_t size, uint64_t method, uint64_t *values);
 
 /* A run of a send with concrete classes, of at most count steps. The bundle has to open, not to be accepted. 0: the ending, a value, Spent or Deep.
- * 10, 11, 12, 14, 15: what stopped it. Each of these has the steps made. Else 1 to 9, 18, 19, without steps. */
+ * 10, 11, 12, 14, 15, 25 to 27: what stopped it. Each of these has the steps made. Else 1 to 9, 18, 19, without steps. */
 uint8_t curiumtoad_run(const uint8_t *bundle, size_t size, uint8_t *scratch, size_t scratch_size,
                        uint64_t function, uint64_t a0, uint64_t a1, uint64_t a2, uint32_t count, uint64_t *values);
 

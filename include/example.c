@@ -45,7 +45,8 @@ static int read_number(const char *word, uint64_t greatest, uint64_t *number)
     return errno == 0 && *end == '\0' && *number <= greatest;
 }
 
-/* Says what run_accepted answered. There is no branch for a send that fails within the run, as none does: 10 to 17 are what the check found. */
+/* Says what run_accepted answered. There is no branch for a send or a resend that fails within the run, as none does: 10 to 17 and 25 to 27 are what the
+ * check found. */
 static int report(int number, const uint64_t *values)
 {
     switch (number) {
@@ -67,6 +68,7 @@ static int report(int number, const uint64_t *values)
         printf("not accepted: %d, signature %" PRIu64 "\n", number, values[CURIUMTOAD_AT_BROKEN_SIGNATURE]);
         return BUNDLE_REFUSED;
     case CURIUMTOAD_BAD_STACK: case CURIUMTOAD_ABSTRACT_NEW: case CURIUMTOAD_NO_LICENCE: case CURIUMTOAD_LOOSE_RESULT:
+    case CURIUMTOAD_NO_OVERRIDDEN: case CURIUMTOAD_AMBIGUOUS_RESEND: case CURIUMTOAD_NARROW_TARGET:
         printf("not accepted: %d, method %" PRIu64 " at %" PRIu64 "\n", number,
                values[CURIUMTOAD_AT_BODY_METHOD], values[CURIUMTOAD_AT_BODY_INSTRUCTION]);
         return BUNDLE_REFUSED;

@@ -20,7 +20,8 @@ A text has one declaration or instruction a line, and # begins a comment:
     method arm(Session, Bench : Any) -> Bench   # the specialisers, each with its declared class behind a colon where that is another one
         arg session                             # the body: one of the arguments,
         new Bench                               # an object of a class,
-        send arm                                # a send, which takes its arguments off the stack, the last one on top
+        send arm                                # a send, which takes its arguments off the stack, the last one on top,
+        resend                                  # the method's own arguments, sent on to the method that it overrides
 
 Each kind of record is numbered by itself, from 0, in the order of its lines. docs/BUNDLE-TEXT.md says more.
 """
@@ -31,14 +32,14 @@ import sys
 from typing import NamedTuple
 
 sys.dont_write_bytecode = True
-from rules import MARKS, MATRIX, asked, chart_cells, chart_lines, chart_text  # noqa: E402
+from rules import AMBIGUOUS_RESEND, MARKS, MATRIX, NO_OVERRIDDEN, asked, chart_cells, chart_lines, chart_text, resend  # noqa: E402
 
 DIRECTORY, LONGEST = 24, 65535
 CLASSES, FUNCTIONS, SIGNATURES, METHODS, PLACES, INSTRUCTIONS = 128, 64, 256, 512, 3, 64
 # Bytes of a record in each section: classes, parents, functions, signatures, methods, code.
 WIDTHS = 6, 1, 1, 2 + PLACES, 6 + 2 * PLACES, 2
-OPERATIONS = ["arg", "new", "send"]
-ARG, NEW, SEND = range(3)
+OPERATIONS = ["arg", "new", "send", "resend"]
+ARG, NEW, SEND, RESEND = range(4)
 
 
 class Class(NamedTuple):
@@ -201,7 +202,8 @@ def read(data):
         hold(applies_to(own) not in earlier, 8, k)
         earlier.add(applies_to(own))
     for k, own in enumerate(methods):
-        limits = [functions[own.function], len(classes), len(functions)]
+        # RESEND has no operand but 0.
+        limits = [functions[own.function], len(classes), len(functions), 1]
         hold(all(operation < len(limits) and operand < limits[operation] for operation, operand in own.body), 9, k)
     return Bundle(classes, functions, signatures, methods)
 
@@ -327,8 +329,10 @@ class Declarations:
     def instruct(self, line, operation):
         if self.body is None:
             line.refuse("the instruction is in no method")
-        operand = [line.argument_name, line.class_name, line.function_name][operation]()
-        self.add(self.body, INSTRUCTIONS, "instructions", line, operation, operand, whole="a body")
+        named = {ARG: line.argument_name, NEW: line.class_name, SEND: line.function_name}
+        # A resend names nothing.
+        word = named[operation]() if operation in named else None
+        self.add(self.body, INSTRUCTIONS, "instructions", line, operation, word, whole="a body")
 
     def add(self, declared, limit, what, line, *parts, whole="a bundle"):
         if len(declared) == limit:
@@ -406,6 +410,8 @@ class Numbered:
             return self.class_number(line, word)
         if operation == SEND:
             return self.function_number(line, word)
+        if operation == RESEND:
+            return 0
         if word not in self.arguments[function]:
             line.refuse(f"the method's function has no argument {word}")
         return self.arguments[function].index(word)
@@ -467,6 +473,8 @@ class Shown:
     def instruction(self, k, at):
         own = self.bundle.methods[k]
         operation, operand = own.body[at]
+        if operation == RESEND:
+            return OPERATIONS[operation]
         return f"{OPERATIONS[operation]} {[self.names.places[own.function], self.names.classes, self.names.functions][operation][operand]}"
 
     def method_lines(self, k):
@@ -516,7 +524,7 @@ OPENING = {
     6: "the signature record breaks its rule",
     7: "the method record breaks its rule",
     8: "an earlier method of the function has the same specialisers",
-    9: "an instruction has an unknown operation, or an operand that is not there",
+    9: "an instruction has an unknown operation or a wrong operand",
 }
 # The kinds of line: N is a number, and a send is a function with its argument classes.
 LISTED = [
@@ -527,7 +535,7 @@ LISTED = [
     ("coverage", r"refused (10) signature (N) send (N(?: N)*)"),
     ("coverage", r"refused (11) signature (N) send (N(?: N)*) methods (N) (N)"),
     ("coverage", r"refused (1[23]) signature (N) send (N(?: N)*) method (N)"),
-    ("body", r"refused (1[4-7]) method (N) at (N)"),
+    ("body", r"refused (1[4-7]|2[5-7]) method (N) at (N)"),
 ]
 
 
@@ -614,17 +622,33 @@ class Explained:
         whose = self.a_method(k)
         own = self.bundle.methods[k]
         operations = [operation for operation, _ in own.body] + ["end"]
-        reason = {
+        operation = operations[at] if at < len(operations) else None
+        reason = self.resent(number, k) if operation == RESEND else {
             (14, SEND): "there are fewer values than it has arguments",
             (14, "end"): "not exactly one value is left",
             (15, NEW): "the class is abstract",
             (16, SEND): "no signature licenses it",
             (17, "end"): f"the value need not be under the result class {self.shown.names.classes[own.result]}",
-        }.get((number, operations[at] if at < len(operations) else None))
+        }.get((number, operation))
         if not reason:
             raise Refused(None, f"{number} is no refusal of what the text has at {at} in {whose}")
-        where = "at its end" if operations[at] == "end" else f"instruction {at}, {self.shown.instruction(k, at)}"
+        where = "at its end" if operation == "end" else f"instruction {at}, {self.shown.instruction(k, at)}"
         return f"refused: {whose}, {where}: {reason}"
+
+    def resent(self, number, k):
+        """why a resend in a method is refused by that number, or nothing where it is not"""
+        found, values = resend(write(self.bundle), k)
+        if found != number:
+            return None
+        if number == NO_OVERRIDDEN:
+            return "the method overrides no other"
+        if number == AMBIGUOUS_RESEND:
+            newer, older = map(self.a_method, values)
+            return f"it is ambiguous between {newer} and {older}, both of which the method overrides"
+        target, place = values
+        argument = self.shown.names.places[self.bundle.methods[k].function][place]
+        declared = self.shown.names.classes[self.bundle.methods[target].declared[place]]
+        return f"argument {argument} need not be under the declared class {declared} of {self.a_method(target)}, to which it goes"
 
 
 # Charts

@@ -4,7 +4,7 @@ import re
 import sys
 
 from made import write
-from rules import methods_of, rivals
+from rules import RESEND, methods_of, opening, rivals, spans
 
 
 def request_of(folder):
@@ -65,8 +65,31 @@ def exact_match(entry):
             answer["exact"] = is_exact(answer["method"], *call["lookup"])
 
 
+def resend(entry):
+    """Eight: operation 3 is RESEND; before, it was unknown, and number 9 named a method that has it"""
+    bundle = bytes.fromhex(entry["bundle"])
+    now = opening(bundle)
+    # Any other number is given before the code is looked at.
+    if now[0] not in (0, 9):
+        return
+    at, length = spans(bundle)[5]
+    unknown = bytearray(bundle)
+    for k in range(at, at + length, 2):
+        if bundle[k] == RESEND:
+            unknown[k] = 255
+    before = opening(bytes(unknown))
+    if now == before:
+        return
+    if "listing" in entry or "calls" in entry:
+        stop(entry, "only an opening can be answered anew for a bundle with operation 3")
+    answer = entry["answer"]
+    if (answer["number"], answer["values"]) != before:
+        stop(entry, f"opening answers {answer!r} where operation 3 is unknown")
+    answer["number"], answer["values"] = now
+
+
 # The requests that change answers of vectors made before them, each with what brings such an entry to its rules.
-CHANGES = {3: newest_rivals, 7: exact_match}
+CHANGES = {3: newest_rivals, 7: exact_match, 8: resend}
 
 
 def entries(path):

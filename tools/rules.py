@@ -1,11 +1,13 @@
-"""The rules for opening, the body view and reader, the scratch, ancestry, lookup, charts and arguments known only by upper classes, and for which sends
-signatures cover, written without the library."""
+"""The rules for opening, the body view and reader, the scratch, ancestry, lookup, charts and arguments known only by upper classes, for which sends
+signatures cover, and for what a method resends to, written without the library."""
 import functools
 import itertools
 
 LONGEST = 65535
 CLASSES, FUNCTIONS, SIGNATURES, METHODS, PLACES = 128, 64, 256, 512, 3
-ABSENT, SHORT, SHORT_ROW, NOT_BINARY, NO_LINE, SHORT_BUFFER, NONE_CONCRETE = range(18, 25)
+ABSENT, SHORT, SHORT_ROW, NOT_BINARY, NO_LINE, SHORT_BUFFER, NONE_CONCRETE, NO_OVERRIDDEN, AMBIGUOUS_RESEND, NARROW_TARGET = range(18, 28)
+# The last of the operations.
+RESEND = 3
 # The bytes of the subclass matrix, and of each of its rows.
 MATRIX, MATRIX_ROW = 2048, 16
 # What a chart shows where lookup gives one of these numbers.
@@ -85,7 +87,8 @@ def opening(bundle):
         return record[:4]
 
     def instruction_kept(function, operation, operand):
-        limits = [functions[function][0], len(classes), len(functions)]
+        # RESEND has no operand but 0.
+        limits = [functions[function][0], len(classes), len(functions), 1]
         return operation < len(limits) and operand < limits[operation]
 
     lists = list(follow([(word(record, 2), word(record, 4)) for record in classes], len(parents)))
@@ -109,6 +112,10 @@ def refused(number, values):
     return number, values[0] if values else 0, 0
 
 
+def method_record(bundle, method):
+    return bundle[spans(bundle)[4][0] + 12 * method:][:12]
+
+
 def view(bundle, method):
     """number, then the part's start and length; for a refusal the record it names, or 0, and 0"""
     number, values = opening(bundle)
@@ -116,15 +123,17 @@ def view(bundle, method):
         return refused(number, values)
     if method >= values[3]:
         return ABSENT, 0, 0
-    record = bundle[spans(bundle)[4][0] + 12 * method:][:12]
+    record = method_record(bundle, method)
     return 0, spans(bundle)[5][0] + word(record, 8), word(record, 10)
 
 
 def reading(code, position):
-    """the values of what is read at a position of any bytes, counted in instructions: one more than the operation, and the operand; both are 0 where
-    no whole instruction with a known operation stands"""
+    """the values of what is read at a position of any bytes, counted in instructions: one more than the operation, and the operand, which is 0 for a
+    RESEND whatever stands there; both are 0 where no whole instruction with a known operation stands"""
     pair = code[2 * position:][:2]
-    return [pair[0] + 1, pair[1]] if len(pair) == 2 and pair[0] <= 2 else [0, 0]
+    if len(pair) < 2 or pair[0] > RESEND:
+        return [0, 0]
+    return [pair[0] + 1, 0 if pair[0] == RESEND else pair[1]]
 
 
 def instruction(bundle, method, position):
@@ -195,10 +204,14 @@ def applicable(bundle, function, *places):
     return {m: own for m, own in methods_of(bundle, function).items() if all_under(bundle, places, own)}
 
 
+def unbeaten(bundle, methods):
+    """of methods with their specialisers those that no other one is at least as specific as, the highest number first"""
+    return [m for m, own in reversed(methods.items()) if not any(all_under(bundle, others, own) for o, others in methods.items() if o != m)]
+
+
 def rivals(bundle, function, *places):
     """the applicable methods that no other one is at least as specific as, the highest number first"""
-    methods = applicable(bundle, function, *places)
-    return [m for m, own in reversed(methods.items()) if not any(all_under(bundle, others, own) for o, others in methods.items() if o != m)]
+    return unbeaten(bundle, applicable(bundle, function, *places))
 
 
 def leading(bundle, methods):
@@ -225,6 +238,50 @@ def is_covered(bundle, function, *places):
     """whether some signature of the function has each class of a send of it under its class at that place"""
     arity, (at, length) = arity_of(bundle, function), spans(bundle)[3]
     return any(record[0] == function and all_under(bundle, places, record[1:1 + arity]) for record in records(bundle[at:][:length], 5))
+
+
+def overridden(bundle, method):
+    """from each method that a method overrides to its specialisers: the others of its function whose specialisers its own are each under"""
+    methods = methods_of(bundle, method_record(bundle, method)[0])
+    own = methods.pop(method)
+    return {m: others for m, others in methods.items() if all_under(bundle, own, others)}
+
+
+def declared_of(bundle, method):
+    """the declared classes at the places that the method's function has"""
+    record = method_record(bundle, method)
+    return record[4:4 + arity_of(bundle, record[0])]
+
+
+def argument_types(bundle, method):
+    """for each place the classes that an argument of the method is known to be under, by its specialiser and by its declared class"""
+    specialisers = methods_of(bundle, method_record(bundle, method)[0])[method]
+    return [above(bundle)[own] | above(bundle)[declared] for own, declared in zip(specialisers, declared_of(bundle, method))]
+
+
+def resend(bundle, method):
+    """number and values of what the check finds of a resend in a method: the method that it resends to; or the two newest of those that tie, the newer first;
+    or the method that it resends to and the first place at which the declared class of that one need not hold the argument"""
+    methods = overridden(bundle, method)
+    if not methods:
+        return NO_OVERRIDDEN, []
+    found = leading(bundle, methods)
+    if not found:
+        return AMBIGUOUS_RESEND, unbeaten(bundle, methods)[:2]
+    [target] = found
+    for place, (known, declared) in enumerate(zip(argument_types(bundle, method), declared_of(bundle, target))):
+        if declared not in known:
+            return NARROW_TARGET, [target, place]
+    return 0, [target]
+
+
+def resending(bundle):
+    """(method, position) of each RESEND, the lowest method first"""
+    for method in range(opening(bundle)[1][3]):
+        _, start, length = view(bundle, method)
+        for position in range(length // 2):
+            if bundle[start + 2 * position] == RESEND:
+                yield method, position
 
 
 @functools.cache

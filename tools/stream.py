@@ -7,6 +7,8 @@ from rules import CLASSES, MATRIX_ROW, SHORT, matrix_rows, opening
 # The first value of a run that no number stops.
 ENDS = {"value": 0, "spent": 1, "deep": 2}
 VALUES = 8
+# The most steps that a run may be given, and the most frames that it may have at once.
+MOST, FRAMES = 2**32 - 1, 32
 # The scratch of a call is longer than the matrix, also than one of a byte a pair, so that a byte written past it shows.
 SCRATCH = 17000
 # So is the row longer than the longest line of a chart, and than a type.

@@ -22,7 +22,7 @@ from vectors import make  # noqa: E402
 ROOT = pathlib.Path(__file__).resolve().parent.parent
 SCRIPT = ROOT / "tools" / "bundle.py"
 SAMPLES = {path.stem: path.read_bytes() for path in sorted((ROOT / "bundles").glob("*.bundle"))}
-CHART = (ROOT / "bundles" / "chart-3.txt").read_text()
+CHART, RESEND = ((ROOT / "bundles" / f"{name}.txt").read_text() for name in ["chart-3", "resend"])
 
 
 def listing(name):
@@ -59,8 +59,9 @@ def some_bundle(draw):
         return [some_class() for _ in range(functions[function])]
 
     def instruction(function):
-        operation = draw.choice([bundle.ARG, bundle.NEW, bundle.SEND] if functions[function] else [bundle.NEW, bundle.SEND])
-        return operation, draw.randrange([functions[function], len(classes), len(functions)][operation])
+        limits = {bundle.ARG: functions[function], bundle.NEW: len(classes), bundle.SEND: len(functions), bundle.RESEND: 1}
+        operation = draw.choice([own for own, limit in limits.items() if limit])
+        return operation, draw.randrange(limits[operation])
 
     signatures, methods = [], {}
     for _ in range(draw.choice([0, 1, 8, 256])):
@@ -78,7 +79,7 @@ def some_bundle(draw):
 
 def some_names(draw, described):
     """names that look like words of the format, like made-up names, and like neither"""
-    words = ["class", "abstract", "under", "function", "signature", "method", "arg", "new", "send", "class1", "fn0", "a", "b_", "_", "Ärmel", "X9"]
+    words = ["class", "abstract", "under", "function", "signature", "method", "arg", "new", "send", "resend", "class1", "fn0", "a", "b_", "_", "Ärmel", "X9"]
 
     def some(count):
         return draw.sample(words, min(count, len(words))) + [f"n{k}" for k in range(count - len(words))]
@@ -116,6 +117,11 @@ class Format(unittest.TestCase):
     def test_chart_3_packs_to_its_sample(self):
         self.assertEqual(bundle.pack(CHART), SAMPLES["chart-3"])
 
+    def test_resend_packs_to_its_sample(self):
+        self.assertEqual(bundle.pack(RESEND), SAMPLES["resend"])
+        self.assertEqual(bundle.unpack(SAMPLES["resend"], bundle.parse(RESEND)[1]), RESEND[RESEND.index("abstract"):])
+        self.assertIn(re.search(r"```\n(method .*?)```", DOCUMENTATION, re.DOTALL)[1], RESEND)
+
     def test_chart_4_of_the_documentation_packs_to_its_sample(self):
         self.assertEqual(bundle.pack(chart_in_documentation()), SAMPLES["chart-4"])
 
@@ -124,7 +130,7 @@ class Format(unittest.TestCase):
         described, names = bundle.parse(textwrap.dedent(example))
         self.assertEqual(described, bundle.Bundle(
             [bundle.Class(False, []), bundle.Class(True, [0]), bundle.Class(True, [0])], [2], [bundle.Signature(0, [1, 2], 0)],
-            [bundle.Method(0, [1, 2], [1, 0], 2, [(bundle.ARG, 0), (bundle.NEW, 2), (bundle.SEND, 0)])]))
+            [bundle.Method(0, [1, 2], [1, 0], 2, [(bundle.ARG, 0), (bundle.NEW, 2), (bundle.SEND, 0), (bundle.RESEND, 0)])]))
         self.assertEqual(names, bundle.Names(["Any", "Session", "Bench"], ["arm"], [["session", "bench"]]))
 
     def test_smallest(self):
@@ -145,11 +151,13 @@ class Format(unittest.TestCase):
 
     def test_words_of_the_format_are_names_too(self):
         described, names = bundle.parse(
-            "class class\nclass under under class\nabstract class abstract under under, class\nfunction new(arg)\nfunction send()\n"
-            "signature new(under) -> class\nmethod new(under : class) -> abstract\nnew under\nsend new\narg arg\nmethod send() -> class\nsend send")
-        self.assertEqual(names, bundle.Names(["class", "under", "abstract"], ["new", "send"], [["arg"], []]))
+            "class class\nclass under under class\nabstract class abstract under under, class\nfunction new(arg)\nfunction resend()\n"
+            "signature new(under) -> class\nmethod new(under : class) -> abstract\nnew under\nsend new\narg arg\n"
+            "method resend() -> class\nsend resend\nresend")
+        self.assertEqual(names, bundle.Names(["class", "under", "abstract"], ["new", "resend"], [["arg"], []]))
         self.assertEqual(described.classes, [bundle.Class(True, []), bundle.Class(True, [0]), bundle.Class(False, [0, 1])])
         self.assertEqual(described.methods[0], bundle.Method(0, [1], [0], 2, [(bundle.NEW, 1), (bundle.SEND, 0), (bundle.ARG, 0)]))
+        self.assertEqual(described.methods[1].body, [(bundle.SEND, 1), (bundle.RESEND, 0)])
 
 
 HEAD = "class A\nclass B under A\nfunction f(x)\nfunction g()\n"
@@ -181,6 +189,8 @@ REFUSALS = [
     (HEAD + BODY + "send", 7, "the name of a function is missing at the end of the line"),
     (HEAD + BODY + "arg 0", 7, "the name of an argument is missing before '0'"),
     (HEAD + BODY + "arg x x", 7, "'x' is too much"),
+    (HEAD + BODY + "resend f", 7, "'f' is too much"),
+    (HEAD + BODY + "resend 0", 7, "'0' is too much"),
     # Names
     (HEAD + "class A under B", 5, "there is a class A already, in line 1"),
     (HEAD + "function f()", 5, "there is a function f already, in line 3"),
@@ -211,6 +221,7 @@ REFUSALS = [
     (HEAD + "method f(A) -> A\n" + BODY, 5, "the method has no instruction"),
     (HEAD + "method f(A) -> A", 5, "the method has no instruction"),
     (HEAD + "new A", 5, "the instruction is in no method"),
+    (HEAD + "resend", 5, "the instruction is in no method"),
     (HEAD + BODY + "class C under A\narg x", 8, "the instruction is in no method"),
     (HEAD + BODY + "method f(A : B) -> B\nnew B", 7, "the method of line 5 has the same specialisers"),
     (HEAD + "method g() -> A\nnew A\nmethod g() -> B\nnew B", 7, "the method of line 5 has the same specialisers"),
@@ -389,7 +400,7 @@ LINES = [
     ("refused 6 record 1", "refused: signature 1 tick() -> Any: the signature record breaks its rule"),
     ("refused 7 record 0", "refused: method 0 tick(): the method record breaks its rule"),
     ("refused 8 record 1", "refused: method 1 arm(Session, Any : Session): an earlier method of the function has the same specialisers"),
-    ("refused 9 record 0", "refused: method 0 tick(): an instruction has an unknown operation, or an operand that is not there"),
+    ("refused 9 record 0", "refused: method 0 tick(): an instruction has an unknown operation or a wrong operand"),
     ("refused 10 signature 0 send 0 1 0", f"refused: arm(Session, Any) finds no method, {SIGNATURE}"),
     ("refused 10 signature 1 send 1", "refused: tick() finds no method, for signature 1 tick() -> Any"),
     (
@@ -444,42 +455,99 @@ UNEXPLAINED = [
     ("refused 16 method 0 at 0", "16 is no refusal of what the text has at 0 in method 0 tick()"),
     ("refused 17 method 0 at 1", "17 is no refusal of what the text has at 1 in method 0 tick()"),
     ("refused 14 method 0 at 3", "14 is no refusal of what the text has at 3 in method 0 tick()"),
+    ("refused 25 method 0 at 1", "25 is no refusal of what the text has at 1 in method 0 tick()"),
+    ("refused 24 method 0 at 1", NO_LINE),
+    ("refused 28 method 0 at 1", NO_LINE),
+    ("refused 27 record 0", NO_LINE),
+]
+
+# Method 1 is the most general one. Above method 2 is method 1 alone; above 4 are 1 to 3, of which 2 and 3 tie; above 5 are 1 and 2, of which 2 leads.
+RESENT = """
+class Any
+class Session under Any
+class Lapsed under Session
+function arm(x, y)
+function tick()
+method tick() -> Any
+    new Any
+    resend
+method arm(Any, Any) -> Any
+    resend
+method arm(Session, Any : Session) -> Any
+    arg x
+    resend
+method arm(Any, Session) -> Any
+    arg y
+method arm(Session, Session) -> Any
+    resend
+method arm(Lapsed, Any) -> Any
+    resend
+"""
+METHOD_2, METHOD_4, METHOD_5 = "method 2 arm(Session, Any : Session)", "method 4 arm(Session, Session)", "method 5 arm(Lapsed, Any)"
+RESENT_LINES = [
+    ("refused 9 record 5", f"refused: {METHOD_5}: an instruction has an unknown operation or a wrong operand"),
+    ("refused 25 method 0 at 1", "refused: method 0 tick(), instruction 1, resend: the method overrides no other"),
+    ("refused 25 method 1 at 0", "refused: method 1 arm(Any, Any), instruction 0, resend: the method overrides no other"),
+    (
+        "refused 26 method 4 at 0",
+        f"refused: {METHOD_4}, instruction 0, resend: it is ambiguous between method 3 arm(Any, Session) and {METHOD_2}, both of which the method overrides"),
+    (
+        "refused 27 method 5 at 0",
+        f"refused: {METHOD_5}, instruction 0, resend: argument y need not be under the declared class Session of {METHOD_2}, to which it goes"),
+]
+RESENT_UNEXPLAINED = [
+    ("refused 25 method 0 at 0", "25 is no refusal of what the text has at 0 in method 0 tick()"),
+    ("refused 25 method 0 at 2", "25 is no refusal of what the text has at 2 in method 0 tick()"),
+    ("refused 26 method 0 at 1", "26 is no refusal of what the text has at 1 in method 0 tick()"),
+    ("refused 14 method 0 at 1", "14 is no refusal of what the text has at 1 in method 0 tick()"),
+    *((f"refused {number} method 2 at 1", f"{number} is no refusal of what the text has at 1 in {METHOD_2}") for number in [16, 25, 26, 27]),
+    ("refused 27 method 4 at 0", f"27 is no refusal of what the text has at 0 in {METHOD_4}"),
+    ("refused 25 method 5 at 0", f"25 is no refusal of what the text has at 0 in {METHOD_5}"),
+    ("refused 27 method 6 at 0", "the text has no method 6"),
 ]
 
 
 class Explain(unittest.TestCase):
-    def setUp(self):
-        self.explained = bundle.Explained(*bundle.parse(SPOKEN))
+    def explained(self, text, listing):
+        return bundle.Explained(*bundle.parse(text)).text(listing)
 
     def test_each_kind_of_line(self):
-        for line, words in LINES:
-            with self.subTest(line):
-                self.assertEqual(self.explained.text(line + "\n"), words + "\n")
+        for text, lines in [(SPOKEN, LINES), (RESENT, RESENT_LINES)]:
+            for line, words in lines:
+                with self.subTest(line):
+                    self.assertEqual(self.explained(text, line + "\n"), words + "\n")
 
     def test_lines_that_are_refused(self):
-        for line, reason in UNEXPLAINED:
-            with self.subTest(line), self.assertRaises(bundle.Refused) as caught:
-                self.explained.text(f"accepted\n{line}\n")
-            self.assertEqual((caught.exception.line, caught.exception.reason), (2, reason))
+        for text, lines in [(SPOKEN, UNEXPLAINED), (RESENT, RESENT_UNEXPLAINED)]:
+            for line, reason in lines:
+                with self.subTest(line), self.assertRaises(bundle.Refused) as caught:
+                    self.explained(text, f"accepted\n{line}\n")
+                self.assertEqual((caught.exception.line, caught.exception.reason), (2, reason))
 
     def test_no_line(self):
         with self.assertRaises(bundle.Refused) as caught:
-            self.explained.text("")
+            self.explained(SPOKEN, "")
         self.assertEqual((caught.exception.line, caught.exception.reason), (None, "the listing has no line"))
 
     def test_chart_3(self):
-        explained = bundle.Explained(*bundle.parse(CHART)).text(listing("chart-3"))
+        explained = self.explained(CHART, listing("chart-3"))
         self.assertIn(f"```\n{explained}```", DOCUMENTATION)
         self.assertEqual(explained, (
             "8 classes, 1 function, 1 signature, 3 methods\n"
             "refused: arm(Lapsed, SharedBench) is ambiguous between method 1 arm(Lapsed, Bench) and method 0 arm(Session, SharedBench), "
             "for signature 0 arm(Session, Bench) -> Outcome\n"))
 
+    def test_ambiguous_resend(self):
+        text = bundle.unpack(SAMPLES["ambiguous-resend"], bundle.parse(CHART)[1])
+        explained = self.explained(text, listing("ambiguous-resend"))
+        self.assertIn(f"```\n{explained}```", DOCUMENTATION)
+        self.assertIn("between method 1 arm(Lapsed, Bench) and method 0 arm(Session, SharedBench), both of which the method overrides", explained)
+
     def test_samples_have_listings_that_fit_them(self):
         for name, data in SAMPLES.items():
             if opens(data):
                 with self.subTest(name):
-                    words = bundle.Explained(*bundle.parse(bundle.unpack(data))).text(listing(name))
+                    words = self.explained(bundle.unpack(data), listing(name))
                     self.assertEqual(len(words.splitlines()), 2)
 
 

@@ -13,8 +13,9 @@ request. Answers that a later request changed are brought to the rules as they s
 The rules for opening, the scratch, ancestry, lookup, charts and arguments known only by upper classes stand a second time in rules.py. They give the
 answers for bundles that no vector has, and every vector is held to them, so that an answer or a byte of scratch on which the two differ is never passed
 on; so are the answers and bytes that uppers.py, matrices.py and exact.py have worked out apart. The other answers, of runs, checks, send types and
-witnesses, are taken from the vectors and the rules' own cases; those for bundles made here are worked out by hand from its rules. The answers of accepted
-runs follow from those of the run and the check and from which signatures cover the send.
+witnesses, are taken from the vectors and the rules' own cases; those for bundles made here and in resends.py are worked out by hand from its rules. Of these
+answers rules.py holds what they say of resends: which one a check names first, and that a run stops at one for a reason that its method gives. The answers
+of accepted runs follow from those of the run and the check and from which signatures cover the send.
 """
 import itertools
 import math
@@ -27,16 +28,16 @@ sys.path.insert(0, str(ROOT / "bundles"))
 import exact  # noqa: E402
 import make  # noqa: E402
 import matrices  # noqa: E402
+import resends  # noqa: E402
 import uppers  # noqa: E402
 from earlier import entries, write_current  # noqa: E402
 from made import write_or_check  # noqa: E402
 from make import applying, chain, flat, of_methods  # noqa: E402
 from rules import (  # noqa: E402
-    ABSENT, ASKED, CLASSES, FUNCTIONS, LONGEST, MATRIX, MAY_FAIL, METHODS, ONE, PLACES, SEVERAL, SHORT, SHORT_ROW, SIGNATURES, arity_of, asked, below,
-    chart_line, chart_lines, instruction, is_covered, lookup, matrix, opening, reading, refusal, refused, spans, view)
-from stream import ROW, SCRATCH, SCRATCHED, Call, ended, fills, one, reply, stream_of, tally, typed  # noqa: E402
-
-MOST = 2**32 - 1
+    ABSENT, ASKED, CLASSES, FUNCTIONS, LONGEST, MATRIX, MAY_FAIL, METHODS, NARROW_TARGET, NO_OVERRIDDEN, ONE, PLACES, SEVERAL, SHORT, SHORT_ROW,
+    SIGNATURES, arity_of, asked, below, chart_line, chart_lines, instruction, is_covered, lookup, matrix, opening, reading, refusal, refused, resend,
+    resending, spans, view)
+from stream import FRAMES, MOST, ROW, SCRATCH, SCRATCHED, Call, ended, fills, one, reply, stream_of, tally, typed  # noqa: E402
 
 
 # Bundles that no vector has
@@ -53,7 +54,8 @@ def at_limits(classes, filled=0):
         f, c = m % FUNCTIONS, m % CLASSES
         more = min(filled, 63)
         filled -= more
-        body = [[(make.ARG, i % arities[f]), (make.NEW, i % CLASSES), (make.SEND, i % FUNCTIONS)][i % 3] for i in range(1 + more)]
+        body = [
+            [(make.ARG, i % arities[f]), (make.NEW, i % CLASSES), (make.SEND, i % FUNCTIONS), (make.RESEND, 0)][i % 4] for i in range(1 + more)]
         # The first specialiser tells the methods of a function apart.
         methods.append((f, [m // FUNCTIONS, c, CLASSES - 1 - c][:arities[f]], [c] * arities[f], c, body))
     return [classes, arities, signatures, methods]
@@ -68,7 +70,9 @@ def broken_at_the_last_record():
         (7, 3, lambda f, places, declared, result, body: (f, places, declared, CLASSES, body)),
         # Its specialisers become those of the method before it of the same function.
         (8, 3, lambda f, places, declared, result, body: (f, [places[0] - 1], declared, result, body)),
-        (9, 3, lambda f, places, declared, result, body: (f, places, declared, result, [(make.NEW, CLASSES)])),
+        *(
+            (9, 3, lambda f, places, declared, result, body, instruction=instruction: (f, places, declared, result, [instruction]))
+            for instruction in [(make.NEW, CLASSES), (make.RESEND, 1), (make.RESEND, 255), (make.RESEND + 1, 0)]),
     ]:
         sections = at_limits(chain(CLASSES))
         last = sections[section][-1]
@@ -258,7 +262,7 @@ def twins():
     twin, body = (0, [0], [0]), [(make.NEW, 0)]
     yield make.bundle(flat(1), [1], [], [(*twin, 0, body), (*twin, 0, body), (*twin, 1, body)]), 7, [2]
     yield make.joined(make.CLASS, b"", b"\0", b"", b"\xff" * 12 * METHODS, b"\0\0"), 7, [0]
-    yield make.bundle(flat(1), [1], [], [(*twin, 0, [(3, 0)]), (*twin, 0, body)]), 8, [1]
+    yield make.bundle(flat(1), [1], [], [(*twin, 0, [(make.RESEND + 1, 0)]), (*twin, 0, body)]), 8, [1]
 
 
 def of_the_rules():
@@ -365,7 +369,7 @@ def held(bundle, answer, second):
 
 
 # The later parts of the rules that have vectors of their own, beside those of the folder itself.
-LATER = ["requests/01", "requests/02", "requests/03", "requests/04", "requests/05", "requests/06", "requests/07"]
+LATER = [f"requests/{request:02}" for request in range(1, 9)]
 
 
 def vectors(folder, name):
@@ -377,8 +381,12 @@ def vectors(folder, name):
             yield entry, bytes.fromhex(entry["bundle"])
 
 
+# Their resends are all that these samples show, so that they are opened, checked, listed and run, and asked nothing else.
+REFUSED_RESENDS = ["no-overridden", "ambiguous-resend", "narrow-target"]
+
+
 def opened_samples():
-    return [bundle for bundle in make.SAMPLES.values() if opening(bundle)[0] == 0]
+    return [bundle for name, bundle in make.SAMPLES.items() if name not in REFUSED_RESENDS and opening(bundle)[0] == 0]
 
 
 def opening_vectors(folder):
@@ -421,6 +429,18 @@ def view_cases(folder):
         yield bundle, Call("view", (method,), row=ROW), reply(number, values, written=part)
 
 
+# Bytes that are no method's code, with what is read at each position: RESEND with any operand, and operations that there are not.
+READ = [
+    (b"\3\0", [[4, 0]]),
+    (b"\3\1\3\x7f\3\x80\3\xff", [[4, 0]] * 4),
+    (b"\2\3\3\2\3", [[3, 3], [4, 0], [0, 0]]),
+    (b"\3", [[0, 0]]),
+    (b"\4\0\4\3\3\4", [[0, 0], [0, 0], [4, 0]]),
+    (b"\2\0\4\0\1\5", [[3, 0], [0, 0], [2, 5]]),
+    (b"\xff\0\0\xff", [[0, 0], [1, 255]]),
+]
+
+
 def reader_cases(folder):
     """every instruction of a part, and some positions past them; where there is no part, the refusal"""
     for bundle, method, number, start, length in view_answers(folder):
@@ -429,8 +449,10 @@ def reader_cases(folder):
             answer = (number, [start] if start else []) if number else (0, reading(bundle[start:][:length], at))
             held(bundle, reply(*answer), reply(*instruction(bundle, method, at)))
             yield bundle, Call("instruction", (method, at)), reply(*answer)
-    # Bytes that are no method's code: an unknown operation, a byte left over, none at all.
-    for code in [b"", b"\0", b"\0\1", b"\1\7\2", b"\2\0\3\0\1\5", b"\xff\0\0\xff", *make.SAMPLES.values()]:
+    for code, values in READ:
+        held(code, values, [reading(code, at) for at in range(len(values))])
+    # Further such bytes: a byte left over, none at all, whole bundles.
+    for code in [b"", b"\0", b"\0\1", b"\1\7\2", *(code for code, _ in READ), *make.SAMPLES.values()]:
         for at in [*range(len(code) // 2), (len(code) + 1) // 2, 2**63, 2**64 - 1]:
             yield code, Call("reading", (at,)), reply(0, reading(code, at))
 
@@ -578,10 +600,22 @@ RUNS = [
     ("two-values", [0, 0, 0, 0], 2, 2, 14, [0, 2]),
     ("abstract-new", [0, 0, 0, 0], 1, 0, 15, [0, 0]),
     ("abstract-new", [0, 0, 0, 0], 0, 0, "spent", []),
+    # Two resends, the object, and for each frame that resent a send that returns its argument.
+    ("resend", [0, 2, 4, 0], 7, 7, "value", [6]),
+    ("resend", [0, 2, 4, 0], 6, 6, "spent", []),
+    ("resend", [0, 2, 4, 0], 1, 1, "spent", []),
+    ("resend", [0, 2, 4, 0], 0, 0, "spent", []),
+    ("resend", [0, 2, 3, 0], 4, 4, "value", [6]),
+    ("resend", [0, 1, 4, 0], 1, 1, "value", [6]),
+    ("no-overridden", [0, 0, 0, 0], 1, 0, 25, [0, 0]),
+    ("no-overridden", [0, 0, 0, 0], 0, 0, "spent", []),
+    ("no-overridden", [0, 1, 0, 0], 2, 1, 25, [0, 0]),
+    ("ambiguous-resend", [0, 2, 4, 0], 1, 0, 26, [2, 0]),
+    ("narrow-target", [0, 2, 0, 0], 1, 0, 27, [1, 0]),
+    ("narrow-target", [0, 1, 0, 0], 1, 1, "value", [1]),
 ]
 
 
-FRAMES = 32
 LONG_RUN = 100_000_000
 
 
@@ -632,6 +666,10 @@ CHECKS = [
     ("abstract-new", 15, [0, 0]),
     ("no-licence", 16, [0, 1]),
     ("loose-result", 17, [0, 1]),
+    ("resend", 0, []),
+    ("no-overridden", 25, [0, 0]),
+    ("ambiguous-resend", 26, [2, 0]),
+    ("narrow-target", 27, [1, 0]),
 ]
 
 
@@ -855,6 +893,30 @@ def scratch_cases(folder):
         yield bundle, call, answer
 
 
+def resend_cases(folder):
+    """resends of many kinds; no folder has them"""
+    return resends.cases()
+
+
+def refused_resends(bundle):
+    """(number, (method, position)) of each resend that a check refuses, the one that it comes to first before the others"""
+    for place in resending(bundle):
+        number, _ = resend(bundle, place[0])
+        if number:
+            yield number, place
+
+
+def hold_resends(bundle, call, answer):
+    """stops where a check or a run refuses a resend that the rules allow, or a check passes over one that they refuse"""
+    place = answer.values[:2]
+    if NO_OVERRIDDEN <= answer.number <= NARROW_TARGET:
+        # A check names the first, and a run may come to any: one that a check allows never stops a run.
+        refusals = (own for own in refused_resends(bundle) if call.entry == "check" or own[1] == place)
+        held(bundle, (answer.number, place), next(refusals, None))
+    elif call.entry == "check" and answer.number in (0, *range(14, 18)):
+        held(bundle, [], [own for _, own in refused_resends(bundle) if answer.number == 0 or own < place])
+
+
 def accepted_runs(bundle, calls):
     """(call, reply) for each run of the bundle, where the verdict of its check is known"""
     verdict = calls.get(Call("check", scratch=SCRATCH))
@@ -880,11 +942,12 @@ def all_cases(folder):
     for bundle, call, answer in itertools.chain.from_iterable(
         made(folder) for made in [
             opening_cases, view_cases, reader_cases, lookup_cases, send_type_cases, check_cases, witness_cases, run_cases, listing_cases,
-            chart_cases, rough_cases, scratch_cases]):
+            chart_cases, rough_cases, scratch_cases, resend_cases]):
         if call.entry in SCRATCHED:
             refused_by = refusal(bundle, call.scratch)
             if refused_by or not fills(call, answer):
                 held(bundle, answer, refused_by and reply(*refused_by))
+        hold_resends(bundle, call, answer)
         calls = cases.setdefault(bundle, {})
         repeats += call in calls
         held(bundle, calls.setdefault(call, answer), answer)

@@ -5,6 +5,7 @@
  */
 #include "bundle.h"
 
+#include <inttypes.h>
 #include <string.h>
 
 /* A sample for each number that a check can give. */
@@ -30,6 +31,11 @@ static const struct {
     {"abstract-new", CURIUMTOAD_ABSTRACT_NEW},
     {"no-licence", CURIUMTOAD_NO_LICENCE},
     {"loose-result", CURIUMTOAD_LOOSE_RESULT},
+    {"resend", CURIUMTOAD_OK},
+    {"resend-operand", CURIUMTOAD_BAD_CODE},
+    {"no-overridden", CURIUMTOAD_NO_OVERRIDDEN},
+    {"ambiguous-resend", CURIUMTOAD_AMBIGUOUS_RESEND},
+    {"narrow-target", CURIUMTOAD_NARROW_TARGET},
 };
 
 static const char *folder;
@@ -218,6 +224,48 @@ static void findings(void)
     HOLDS(curiumtoad_check(BUNDLE, SCRATCH, v) == CURIUMTOAD_BAD_STACK && v[CURIUMTOAD_AT_BODY_METHOD] == 1 && v[CURIUMTOAD_AT_BODY_INSTRUCTION] == 0);
 }
 
+/* A check that a resend breaks has the method and the instruction that the listing has, and no other value, whatever they are before. */
+static void broken_resend(const char *sample)
+{
+    char expected[80];
+    use(sample);
+    memset(v, 0xff, sizeof v);
+    int number = curiumtoad_check(BUNDLE, SCRATCH, v);
+    snprintf(expected, sizeof expected, "refused %d method %" PRIu64 " at %" PRIu64 "\n", number,
+             v[CURIUMTOAD_AT_BODY_METHOD], v[CURIUMTOAD_AT_BODY_INSTRUCTION]);
+    for (size_t place = CURIUMTOAD_AT_BODY_INSTRUCTION + 1; place < CURIUMTOAD_VALUE_COUNT; place++)
+        HOLDS(v[place] == 0);
+    HOLDS(curiumtoad_listing(BUNDLE, text, sizeof text, v) == CURIUMTOAD_OK && v[CURIUMTOAD_AT_TEXT_LENGTH] > strlen(expected));
+    HOLDS(memcmp(text + v[CURIUMTOAD_AT_TEXT_LENGTH] - strlen(expected), expected, strlen(expected)) == 0);
+}
+
+/* Whether a run of chart-4 with these classes ends in this way, where the first instruction of a method is a resend and method 2 declares a class for its
+ * second argument. Methods 0 and 1 override 2 alone, which overrides none, and 3 overrides all of these. */
+static int resent(uint64_t method, uint8_t declared, uint64_t a0, uint64_t a1, int number, uint64_t v0, uint64_t v1, uint64_t steps)
+{
+    uint64_t expected[CURIUMTOAD_VALUE_COUNT] = {v0, v1};
+    expected[CURIUMTOAD_AT_STEPS] = steps;
+    use("chart-4");
+    if (curiumtoad_body(BUNDLE, method, v) != CURIUMTOAD_OK)
+        return 0;
+    b.bytes[v[CURIUMTOAD_AT_CODE_START]] = 3;
+    b.bytes[v[CURIUMTOAD_AT_CODE_START] + 1] = 0;
+    /* The methods begin where bytes 16 and 17 say, and have twelve bytes each. */
+    b.bytes[b.bytes[16] + 256 * b.bytes[17] + 2 * 12 + 5] = declared;
+    return curiumtoad_run(BUNDLE, SCRATCH, 0, a0, a1, 0, 9, v) == number && memcmp(v, expected, sizeof v) == 0;
+}
+
+static void resends(void)
+{
+    broken_resend("no-overridden");
+    broken_resend("ambiguous-resend");
+    broken_resend("narrow-target");
+    HOLDS(resent(0, 3, 1, 4, CURIUMTOAD_OK, CURIUMTOAD_ENDING_VALUE, 6, 2));
+    HOLDS(resent(2, 3, 1, 3, CURIUMTOAD_NO_OVERRIDDEN, 2, 0, 0));
+    HOLDS(resent(3, 3, 2, 4, CURIUMTOAD_AMBIGUOUS_RESEND, 3, 0, 0));
+    HOLDS(resent(1, 4, 2, 3, CURIUMTOAD_NARROW_TARGET, 1, 0, 0));
+}
+
 static void runs(void)
 {
     use("chart-4");
@@ -287,6 +335,7 @@ int main(int argc, char **argv)
     matrices(0xff);
     rough_sends();
     findings();
+    resends();
     runs();
     listings();
     charts();

@@ -18,6 +18,11 @@ abbrev pub notFoundNumber : not-found-type.NotFound → ℕ
 notFoundNumber Missing = numbers.noMethod
 notFoundNumber (Ambiguous m n) = numbers.ambiguous
 
+-- the number of a resend that has no target
+abbrev pub resendNumber : not-found-type.NotFound → ℕ
+resendNumber Missing = numbers.noOverridden
+resendNumber (Ambiguous m n) = numbers.ambiguousResend
+
 abbrev pub notFoundMethods : not-found-type.NotFound → List ℕ
 notFoundMethods Missing = []
 notFoundMethods (Ambiguous m n) = m ∷ n ∷ []

@@ -1,11 +1,13 @@
 // What a send fails by: no method is found, number 10 or 11, or one that does not suit, number 12 or 13.
 use crate::number::AMBIGUOUS;
+use crate::number::AMBIGUOUS_RESEND;
 use crate::number::NARROW_DECLARED;
 use crate::number::NO_METHOD;
+use crate::number::NO_OVERRIDDEN;
 use crate::number::WIDE_RESULT;
 ghost use mathlib.Core.Path.{_≡_};
 ghost use lib.ListN.{getD};
-ghost use Rattle.answers.specs.Failures.{notFoundNumber, notFoundMethods, failureNumber, failureMethods};
+ghost use Rattle.answers.specs.Failures.{notFoundNumber, resendNumber, notFoundMethods, failureNumber, failureMethods};
 
 // What a lookup fails by: no method applies, or none of those that do leads, with the two rivals to name.
 pub enum NotFound {
@@ -20,6 +22,16 @@ impl NotFound {
         match self {
             NotFound::Missing => NO_METHOD,
             NotFound::Ambiguous(_, _) => AMBIGUOUS,
+        }
+    }
+
+    // The same of a resend, which looks among the methods that its own overrides.
+    pub fn resend_number(self) -> u8
+        ensures { λ r. ⌜ r ≡ resendNumber self ⌝ }
+    {
+        match self {
+            NotFound::Missing => NO_OVERRIDDEN,
+            NotFound::Ambiguous(_, _) => AMBIGUOUS_RESEND,
         }
     }
 

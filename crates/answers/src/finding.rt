@@ -10,7 +10,7 @@ pub struct CoverageFinding {
     pub failure: Failure,
 }
 
-// Numbers 14 to 17: the method and its first broken instruction.
+// Numbers 14 to 17 and 25 to 27: the method and its first broken instruction.
 pub struct BodyFinding {
     pub number: u8,
     pub method: usize,

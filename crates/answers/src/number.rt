@@ -46,3 +46,9 @@ pub const NO_LINE: u8 = 22;
 pub const SHORT_LINE: u8 = 23;
 
 pub const NO_CONCRETE: u8 = 24;
+
+pub const NO_OVERRIDDEN: u8 = 25;
+
+pub const AMBIGUOUS_RESEND: u8 = 26;
+
+pub const NARROW_TARGET: u8 = 27;

@@ -27,7 +27,7 @@ pub(crate) fn view_reply(bundle: &[u8], row: &mut [u8], method: usize) -> Reply 
     Reply::pair(refusal, place, part.len())
 }
 
-// One more than the operation, and the operand; both are 0 where no instruction is left.
+// One more than the operation, and the operand, 0 for RESEND; both are 0 where no instruction is left.
 fn of_reading(reading: Reading) -> Reply {
     match reading {
         Reading::Instruction(instruction) => of_instruction(instruction),
@@ -40,6 +40,7 @@ fn of_instruction(instruction: Instruction) -> Reply {
         Instruction::Arg(place) => Reply::pair(0, 1, place),
         Instruction::New(class) => Reply::pair(0, 2, class),
         Instruction::Send(function) => Reply::pair(0, 3, function),
+        Instruction::Resend => Reply::pair(0, 4, 0),
     }
 }
 

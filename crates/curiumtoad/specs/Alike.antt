@@ -1,4 +1,4 @@
--- Soundness about the answers of two calls: a check that accepted a bundle, and a run of the same bundle, judge every send alike.
+-- Soundness about the answers of two calls: a check that accepted a bundle, and a run of the same bundle, judge every send and every resend alike.
 -- Assumes nothing.
 use Prim.Native.Nat.{ℕ, _≤_}
 use mathlib.Core.Path.{_≡_}

@@ -1,4 +1,4 @@
-// A run for callers that have no branch for a send that finds no method, or two: its answer has no case for the numbers 10 to 17 of a run.
+// A run for callers that have no branch for a send that finds no method, or two: its answer has no case for a number that stops a run.
 use answers::refusal::Refusal;
 use answers::send::Send;
 use preparation::begin::Beginning;

@@ -5,19 +5,20 @@ use native.Mathlib.Decide.{ℕ-discrete}
 use native.Mathlib.Nat.{eq-or-lt-of-le}
 use native.Mathlib.Omega.{arith}
 use mathlib.Core.Path.{_≡_, sym, _∙_}
-use mathlib.Core.Bool.{Bool, true, false, _&&_}
+use mathlib.Core.Bool.{Bool, true, false, not, _&&_}
 use mathlib.Core.Logic.{_⊎_, inl, inr}
 use mathlib.Core.List.{List}
 use lib.Dec.{eqb}
 use lib.ListN.{length, getD, set, replicate, length-set, length-replicate, getD-replicate}
 use lib.Seq.{getD-set-same, getD-set-other}
 use borrow.Author.Tests.{eq-eqb, ne-eqb}
-use Rattle.rules.specs.Bounded.{upto}
+use Rattle.rules.specs.Bounded.{upto, keep}
 use Rattle.rules.specs.Layout.{maxFunctions, maxMethods}
 use Rattle.rules.specs.Model.{Model}
-use Rattle.rules.specs.Lookup.{applies}
-use Rattle.rules.proofs.Lists.{length-upto}
+use Rattle.rules.specs.Lookup.{applies, applicable}
+use Rattle.rules.proofs.Lists.{keep-keep, length-upto}
 use Rattle.dispatch.specs.Index.{NextMethod, IndexedFrom, Indexed, indexed}
+use Rattle.dispatch.specs.Listed.{applicableBut}
 use Rattle.dispatch.proofs.Kept.{Keeping, keeping-none, upto-miss, upto-hit, upto-skip}
 
 module _ (M : Model) where
@@ -88,44 +89,53 @@ module _ (M : Model) where
 pub indexed-of : {M : Model} {index : List ℕ} → Indexed M index → IndexedFrom M index 0
 indexed-of (indexed i) = i
 
--- m is an applicable method of function f
-abbrev pub suited : Model → ℕ → List ℕ → ℕ → Bool
-suited M f args m = eqb (M .function m) f && applies M args m
+-- m applies, and is another than `but`
+abbrev pub otherApplies : Model → List ℕ → ℕ → ℕ → Bool
+otherApplies M args but m = applies M args m && not (eqb m but)
 
--- A walk along the index over the methods of function f: of those below m the list holds the applicable ones, and m is one of the function or the end.
-pub record Walking (M : Model) (f : ℕ) (args old list : List ℕ) (m count : ℕ) : Type 0 where
-  pub keeping : Keeping (suited M f args) (upto (M .methods)) old list m count
+-- and is a method of function f
+abbrev pub suited : Model → ℕ → List ℕ → ℕ → ℕ → Bool
+suited M f args but m = eqb (M .function m) f && applies M args m && not (eqb m but)
+
+-- the methods of the bundle that are
+pub but-suited : (M : Model) (f : ℕ) (args : List ℕ) (but : ℕ) → keep (suited M f args but) (upto (M .methods)) ≡ applicableBut M f args but
+unfolding applicableBut applicable
+but-suited M f args but = sym (keep-keep _ (λ m. not (eqb m but)) (upto (M .methods)))
+
+-- A walk along the index over the methods of function f: of those below m the list holds the suited ones, and m is one of the function or the end.
+pub record Walking (M : Model) (f : ℕ) (args : List ℕ) (but : ℕ) (old list : List ℕ) (m count : ℕ) : Type 0 where
+  pub keeping : Keeping (suited M f args but) (upto (M .methods)) old list m count
   pub of-function : m < M .methods → M .function m ≡ f
 
-module _ (M : Model) (f : ℕ) (args old : List ℕ) where
+module _ (M : Model) (f : ℕ) (args : List ℕ) (but : ℕ) (old : List ℕ) where
   -- the methods that the index passes over are of other functions
-  walk-on : {list : List ℕ} {k count m : ℕ} → Keeping (suited M f args) (upto (M .methods)) old list k count → NextMethod M f k m → Walking M f args old list m count
+  walk-on : {list : List ℕ} {k count m : ℕ} → Keeping (suited M f args but) (upto (M .methods)) old list k count → NextMethod M f k m → Walking M f args but old list m count
   walk-on {k = k} {m = m} kept n =
       record {
-        keeping = upto-skip (suited M f args) (M .methods) old kept m (next-above M f k m n (omega (arith, kept .within, length-upto (M .methods)))) (n .within) (λ j l h. other j (n .lowest j l h));
+        keeping = upto-skip (suited M f args but) (M .methods) old kept m (next-above M f k m n (omega (arith, kept .within, length-upto (M .methods)))) (n .within) (λ j l h. other j (n .lowest j l h));
         of-function = λ l. n .found l .1;
       }
     where
-      other : (j : ℕ) → (M .function j ≡ f → ⊥) → suited M f args j ≡ false
+      other : (j : ℕ) → (M .function j ≡ f → ⊥) → suited M f args but j ≡ false
       other j d = rw (ne-eqb (M .function j) f d)
 
   module _ {index : List ℕ} (i : IndexedFrom M index 0) where
-    pub walk-begins : f < maxFunctions → Walking M f args old old (getD index f 0) 0
-    walk-begins h = walk-on (keeping-none (suited M f args) (upto (M .methods)) old) (i .begins f h)
+    pub walk-begins : f < maxFunctions → Walking M f args but old old (getD index f 0) 0
+    walk-begins h = walk-on (keeping-none (suited M f args but) (upto (M .methods)) old) (i .begins f h)
 
     -- from a method to the next of its function
-    module _ {list : List ℕ} {m count : ℕ} (w : Walking M f args old list m count) (h : m < M .methods) (few : M .methods ≤ maxMethods) where
+    module _ {list : List ℕ} {m count : ℕ} (w : Walking M f args but old list m count) (h : m < M .methods) (few : M .methods ≤ maxMethods) where
       walk-next : NextMethod M f (m + 1) (getD index (maxFunctions + m) 0)
       walk-next = rw (w .of-function h) at (i .goes-on m (omega arith) (omega arith))
 
       pub walk-rises : m < getD index (maxFunctions + m) 0
       walk-rises = omega (arith, next-above M f (m + 1) (getD index (maxFunctions + m) 0) walk-next (omega arith))
 
-      suited-as : {t : Bool} → applies M args m ≡ t → suited M f args m ≡ t
+      suited-as : {t : Bool} → otherApplies M args but m ≡ t → suited M f args but m ≡ t
       suited-as e = rw (eq-eqb (M .function m) f (w .of-function h)) e
 
-      pub walk-miss : applies M args m ≡ false → Walking M f args old list (getD index (maxFunctions + m) 0) count
-      walk-miss e = walk-on (upto-miss (suited M f args) (M .methods) old (w .keeping) h (suited-as e)) walk-next
+      pub walk-miss : otherApplies M args but m ≡ false → Walking M f args but old list (getD index (maxFunctions + m) 0) count
+      walk-miss e = walk-on (upto-miss (suited M f args but) (M .methods) old (w .keeping) h (suited-as e)) walk-next
 
-      pub walk-hit : M .methods ≤ length old → applies M args m ≡ true → Walking M f args old (set list count m) (getD index (maxFunctions + m) 0) (count + 1)
-      walk-hit r e = walk-on (upto-hit (suited M f args) (M .methods) old (w .keeping) r h (suited-as e)) walk-next
+      pub walk-hit : M .methods ≤ length old → otherApplies M args but m ≡ true → Walking M f args but old (set list count m) (getD index (maxFunctions + m) 0) (count + 1)
+      walk-hit r e = walk-on (upto-hit (suited M f args but) (M .methods) old (w .keeping) r h (suited-as e)) walk-next

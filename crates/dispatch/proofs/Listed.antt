@@ -3,22 +3,22 @@
 use Prim.Native.Nat.{ℕ, _<_}
 use native.Mathlib.Omega.{arith}
 use mathlib.Core.Path.{_≡_, refl, sym, ap, _∙_}
-use mathlib.Core.Bool.{true}
+use mathlib.Core.Bool.{true, not}
 use mathlib.Core.List.{List, [], _∷_, List·Memᴰ}
 use lib.Dec.{ltb, eqb}
 use lib.ListN.{length, getD}
-use borrow.Author.Tests.{ltb-true, lt-ltb, eqb-true, eq-eqb}
+use borrow.Author.Tests.{ltb-true, lt-ltb, eqb-true, eq-eqb, ne-eqb}
 use Rattle.rules.specs.Layout.{maxMethods}
 use Rattle.rules.specs.Model.{Model, modelOf}
 use Rattle.rules.specs.Lookup.{applicable, missing, select}
-use Rattle.rules.proofs.Lists.{and-left, and-right, and-both, every-mem, every-from, every-place}
+use Rattle.rules.proofs.Lists.{and-left, and-right, and-both, every-mem, every-from, every-place, keep-mem, keep-all}
 use Rattle.rules.proofs.Lookup.{applicable-candidate}
 use Rattle.rules.proofs.Selection.{MethodOf}
 use Rattle.layout.specs.declared.bundle.Bundle.{Bundle}
 use Rattle.layout.proofs.Opened.{wellformed-of}
 use Rattle.layout.specs.Arity.{OfArity}
 use Rattle.subclasses.specs.Prepared.{Prepared}
-use Rattle.dispatch.specs.Listed.{methodOf, Listed, listed, Candidates}
+use Rattle.dispatch.specs.Listed.{methodOf, Listed, listed, Candidates, applicableBut}
 
 pub method-of : {M : Model} {f m : ℕ} → methodOf M f m ≡ true → MethodOf M f m
 unfolding methodOf
@@ -46,15 +46,22 @@ pub candidate-fits : {b : List ℕ} {t : Bundle} {s : List ℕ} {f n : ℕ} {ms 
     → getD ms i 0 < maxMethods
 candidate-fits p c i l = omega (arith, candidate-at c i l .bound, wellformed-of (p .opened) .methods-limit)
 
--- the applicable methods of a function are methods of it
-pub applicable-listed : (M : Model) (f : ℕ) (args : List ℕ) → Listed M f (applicable M f args)
-unfolding methodOf
-applicable-listed M f args = listed (every-from (methodOf M f) (applicable M f args) one)
+-- the applicable methods of a function, whichever is left out, are methods of it
+pub applicable-listed : (M : Model) (f : ℕ) (args : List ℕ) (but : ℕ) → Listed M f (applicableBut M f args but)
+unfolding methodOf applicableBut
+applicable-listed M f args but = listed (every-from (methodOf M f) (applicableBut M f args but) one)
   where
-    one : (m : ℕ) → List·Memᴰ m (applicable M f args) → methodOf M f m ≡ true
+    one : (m : ℕ) → List·Memᴰ m (applicableBut M f args but) → methodOf M f m ≡ true
     one m h =
-        let c = applicable-candidate M f args h in
+        let c = applicable-candidate M f args (keep-mem (λ m. not (eqb m but)) (applicable M f args) h .0) in
         and-both (ltb m (M .methods)) (eqb (M .function m) f) (lt-ltb m (M .methods) (c .bound)) (eq-eqb (M .function m) f (c .ofFunction))
+
+-- no method has the count for its number
+pub all-applicable : (M : Model) (f : ℕ) (args : List ℕ) → applicableBut M f args (M .methods) ≡ applicable M f args
+unfolding applicableBut
+all-applicable M f args =
+    keep-all (λ m. not (eqb m (M .methods))) (applicable M f args)
+    (λ m h. ap not (ne-eqb m (M .methods) (λ e. omega (arith, applicable-candidate M f args h .bound))))
 
 -- none to choose from
 pub empty-selected : (M : Model) (ms : List ℕ) → length ms ≡ 0 → select M ms ≡ missing

@@ -2,12 +2,13 @@
 -- Assumes nothing.
 use Prim.Native.Nat.{ℕ, _≤_}
 use mathlib.Core.Path.{_≡_}
-use mathlib.Core.Bool.{Bool, true, _&&_}
+use mathlib.Core.Bool.{Bool, true, not, _&&_}
 use mathlib.Core.List.{List}
 use lib.Dec.{ltb, eqb}
 use lib.ListN.{length, take}
-use Rattle.rules.specs.Bounded.{every}
+use Rattle.rules.specs.Bounded.{every, keep}
 use Rattle.rules.specs.Model.{Model}
+use Rattle.rules.specs.Lookup.{applicable}
 
 -- m is a method of function f
 unfoldable pub methodOf : Model → ℕ → ℕ → Bool
@@ -21,6 +22,10 @@ pub data Listed (M : Model) (f : ℕ) (ms : List ℕ) : Type 0 where
 pub record Candidates (M : Model) (f n : ℕ) (ms : List ℕ) : Type 0 where
   pub arity : n ≡ M .arity f
   pub methods : Listed M f ms
+
+-- the methods of a function that apply, but one; a number that no method has leaves them all
+unfoldable pub applicableBut : Model → ℕ → List ℕ → ℕ → List ℕ
+applicableBut M f args but = keep (λ m. not (eqb m but)) (applicable M f args)
 
 -- the first r numbers of a lent list, which is as long as it was, are these
 pub record Written (these old new : List ℕ) (r : ℕ) : Type 0 where

@@ -1,11 +1,14 @@
 // The fields of a frame.
 use layout::bundle::Bundle;
 use layout::bytes::class_at;
+use layout::bytes::part;
+use subclasses::tuple::padded_tuple;
 ghost use mathlib.Core.Path.{_≡_};
 ghost use Prim.Native.Nat.{_+_, _*_, _<_, _≤_};
 ghost use lib.ListN.{length, getD};
 ghost use lib.Seq.{paste};
-ghost use Rattle.rules.specs.Layout.{places};
+ghost use Rattle.rules.specs.Bytes.{part};
+ghost use Rattle.rules.specs.Layout.{places, padded};
 ghost use Rattle.rules.specs.Machine.{maxFrames};
 ghost use Rattle.frames.specs.Arrays.{stackRoom, frameBytes, methodAt, nextAt, HasFrame, HasStack, passed, begun, given};
 
@@ -41,6 +44,15 @@ pub fn argument(values: &[u8], k: usize, place: usize) -> usize
     ensures { λ r. ⌜ r ≡ getD (now (values .entry)) (frameBytes * k + place) 0 ⌝ }
 {
     class_at(values, FRAME_BYTES * k + place)
+}
+
+// The n argument classes of frame k, as a tuple.
+pub fn arguments(values: &[u8], k: usize, n: usize) -> [u8; Bundle::PLACES]
+    requires { ⌜ HasStack (now values) k ⌝ }
+    requires { ⌜ n ≤ places ⌝ }
+    ensures { λ r. ⌜ r ≡ padded (part (now (values .entry)) (frameBytes * k) n) ⌝ }
+{
+    padded_tuple(part(values, FRAME_BYTES * k, n))
 }
 
 // Passes the next instruction of frame k.

@@ -9,9 +9,10 @@ pub enum Instruction {
     Arg(usize),
     New(usize),
     Send(usize),
+    Resend,
 }
 
-// The instruction of these two bytes. Number 9 refuses every other operation, and so it does what stands for it here.
+// The instruction of these two bytes. Number 9 refuses every other operation, and what stands for it here, and a RESEND whose operand is not 0.
 pub fn decoded(operation: usize, operand: usize) -> Instruction
     ensures { λ r. ⌜ instr r ≡ decode operation operand ⌝ }
 {
@@ -19,6 +20,7 @@ pub fn decoded(operation: usize, operand: usize) -> Instruction
         0 => Instruction::Arg(operand),
         1 => Instruction::New(operand),
         2 => Instruction::Send(operand),
+        3 => Instruction::Resend,
         _ => Instruction::Arg(Bundle::PLACES),
     }
 }

@@ -1,4 +1,4 @@
--- An instruction of the frame on top: the frame that has passed it, the value that it puts, and the arguments that it takes off.
+-- An instruction of the frame on top: the frame that has passed it, the value that it puts, the arguments that it takes off, and those that it hands on.
 -- Assumes nothing.
 use Prim.Native.Nat.{ℕ, zero, suc, _+_, _*_, _≤_, _<_}
 use native.Mathlib.Nat.{le-of-suc-le-suc, eq-or-lt-of-le}
@@ -16,12 +16,18 @@ use Rattle.rules.specs.Numbers as numbers
 use Rattle.rules.specs.Bounded.{every}
 use Rattle.rules.specs.Bytes.{byte, part}
 use Rattle.rules.specs.Layout.{places, padded}
-use Rattle.rules.specs.Model.{Model, Wellformed, present, arg, new, send}
+use Rattle.rules.specs.Model.{Model, Wellformed, present, arg, new, send, resend}
+use Rattle.rules.specs.Lookup.{found}
+use Rattle.rules.specs.Resend.{resendTarget}
 use Rattle.rules.specs.Types.{arguments}
-use Rattle.rules.specs.Machine.{Frame, push, after, call, turn, made, failed, stopped, stoppedAt, maxFrames}
+use Rattle.rules.specs.Coverage.{declaredHold}
+use Rattle.rules.specs.Machine.{Frame, push, after, call, enter, resendTo, turn, made, failed, stopped, stoppedAt, maxFrames}
 use Rattle.rules.proofs.Lists.{and-left, and-right, and-both, every-places}
 use Rattle.rules.proofs.Places.{part-at, part-length}
 use Rattle.rules.proofs.Tuples.{padded-read}
+use Rattle.answers.specs.declared.failure.NotFound.{NotFound}
+use Rattle.answers.specs.declared.failure.NotFound.the-variants.{Missing, Ambiguous}
+use Rattle.answers.specs.Failures.{notFound, resendNumber}
 use Rattle.subclasses.specs.Places.{Arguments}
 use Rattle.subclasses.proofs.Asked.{class-below}
 use Rattle.frames.specs.Arrays.{frameNumbers, frameBytes, stackRoom, methodAt, nextAt, heightAt, stackAt, HasFrame, raised, laid, lowered, passed}
@@ -249,6 +255,62 @@ module _ (M : Model) (w : Wellformed M) (fs vs : List ℕ) (k : ℕ) (g : Going 
   send-stops f h =
       let few : length (stackFrom vs (stackAt k) (heightAt fs k)) < M .arity f = omega (arith, length-stack vs (stackAt k) (heightAt fs k)) in
       rw (lt-leb (M .arity f) (length (stackFrom vs (stackAt k) (heightAt fs k))) few)
+
+  -- a resend hands on the frame's own arguments
+  own-arguments : Arguments M (M .function (methodAt fs k)) (top .args)
+  unfolding frameOf
+  own-arguments =
+      let n = numbers-of (held-of g) in
+      record {
+        function = w .function-present (methodAt fs k) (n .method-present);
+        arity = part-length vs (frameBytes * k) (M .arity (M .function (methodAt fs k))) (omega (arith, n .stack, arity-few));
+        classes = fits-of (held-of g) .args-present;
+      }
+
+  pub handed-on : (n : ℕ) → n ≡ M .arity (M .function (methodAt fs k)) → (tuple : List ℕ) → tuple ≡ padded (part vs (frameBytes * k) n)
+      → (take n tuple ≡ top .args) × Arguments M (M .function (methodAt fs k)) (top .args)
+  unfolding frameOf
+  handed-on n e tuple r =
+      let a = own-arguments in
+      let args = part vs (frameBytes * k) (M .arity (M .function (methodAt fs k))) in
+      (rw (r, e) (rw (a .arity) at (padded-read args (omega (arith, a .arity, arity-few)))), a)
+
+  resent-waiting : (callersOf M (passed fs k) vs (suc k) ≡ after (split M top) (top .stack) ∷ callersOf M fs vs k) × Waiting M (passed fs k) vs (suc k)
+  unfolding callersOf
+  resent-waiting =
+      let n = numbers-of (held-of g) in
+      let s = fits-of (held-of g) in
+      let rest = stored M fs vs k (frameNumbers * k + 1) (nextAt fs k + 1) (omega arith) (waiting-of (held-of g)) in
+      let frame = passed-frame M fs vs k (n .frame) in
+      let fits = fits-after M 1 top (top .stack) w s top-left (omega (arith, s .room)) (s .values-present) in (
+        ap₂ (λ (x : Frame) (xs : List Frame). x ∷ xs) frame (rest .0),
+        waiting-more M (passed fs k) vs k (n .frame .few) (rw frame fits) (rest .1),
+      )
+
+  -- it waits for the target's value, with its stack as it was
+  pub resend-enters : (t : ℕ) → declaredHold M t (top .args) ≡ true → (fs′ : List ℕ) → fs′ ≡ passed fs k
+      → Waiting M fs′ vs (k + 1) × (enter M t (top .args) (callersOf M fs′ vs (k + 1)) ≡ resendTo M (split M top) (callersOf M fs vs k) (found t))
+  unfolding resendTo split
+  resend-enters t e fs′ q =
+      let (callers, waits) = resent-waiting in
+      rw (q, add-one k, e) (waits, ap (enter M t (top .args)) callers)
+
+  -- 27 where the target's declared classes do not hold the arguments
+  pub narrow-stops : (t : ℕ) → declaredHold M t (top .args) ≡ false
+      → resendTo M (split M top) (callersOf M fs vs k) (found t) ≡ failed (stopped numbers.narrowTarget (methodAt fs k ∷ nextAt fs k ∷ []))
+  unfolding resendTo frameOf split stoppedAt
+  narrow-stops t e = rw e
+
+  -- 25 and 26 where there is no target
+  pub resend-stops : (x : NotFound) → notFound x ≡ resendTarget M (methodAt fs k)
+      → turnAt M fs vs k resend ≡ failed (stopped (resendNumber x) (methodAt fs k ∷ nextAt fs k ∷ []))
+  unfolding turnAt turn resendTo frameOf split stoppedAt
+  resend-stops Missing e = rw (← e)
+  resend-stops (Ambiguous a b) e = rw (← e)
+
+  pub resend-goes : (t : ℕ) → found t ≡ resendTarget M (methodAt fs k) → resendTo M (split M top) (callersOf M fs vs k) (found t) ≡ turnAt M fs vs k resend
+  unfolding turnAt turn frameOf split
+  resend-goes t e = rw (← e)
 
   -- ARG and NEW put a value; NEW of an abstract class is 15
   pub arg-puts : (i : ℕ) → turnAt M fs vs k (arg i)

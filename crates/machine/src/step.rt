@@ -2,6 +2,7 @@
 use crate::call::call;
 use crate::ending::Ending;
 use crate::ending::Stepped;
+use crate::resend::resend;
 use answers::number::ABSTRACT_NEW;
 use answers::number::BAD_STACK;
 use frames::frame::argument;
@@ -146,5 +147,6 @@ pub(crate) fn step(
         Instruction::Arg(place) => arg(bytes, b, frames, values, top, place),
         Instruction::New(c) => new(bytes, b, frames, values, top, c),
         Instruction::Send(f) => send(bytes, b, scratch, index, frames, values, top, f),
+        Instruction::Resend => resend(bytes, b, scratch, index, frames, values, top),
     }
 }

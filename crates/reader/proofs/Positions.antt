@@ -19,14 +19,14 @@ use Rattle.rules.proofs.Opening.{Rules, opened-rules}
 use Rattle.reader.specs.declared.BodyReader.{BodyReader}
 use Rattle.reader.specs.Reader.{nth, known, instructionOf, readingAt, past, placeAfter, advanced, readings, ReadsBody}
 
--- two bytes are an instruction where the operation is one of the three
-pub known-pair : (operation operand : ℕ) → operation ≤ 2 → instructionOf operation operand ≡ some (decode operation operand)
+-- two bytes are an instruction where the operation is one of the four
+pub known-pair : (operation operand : ℕ) → operation ≤ 3 → instructionOf operation operand ≡ some (decode operation operand)
 unfolding instructionOf known
-known-pair operation operand h = rw (le-leb operation 2 h)
+known-pair operation operand h = rw (le-leb operation 3 h)
 
-pub unknown-pair : (operation operand : ℕ) → 2 < operation → instructionOf operation operand ≡ none
+pub unknown-pair : (operation operand : ℕ) → 3 < operation → instructionOf operation operand ≡ none
 unfolding instructionOf known
-unknown-pair operation operand h = rw (lt-leb operation 2 h)
+unknown-pair operation operand h = rw (lt-leb operation 3 h)
 
 -- past the last pair of bytes there is none
 pub read-past : (code : List ℕ) (at : ℕ) → length code / 2 ≤ at → readingAt code at ≡ none
@@ -64,12 +64,13 @@ pub place-none : (code : List ℕ) (at : ℕ) → readingAt code at ≡ none →
 unfolding placeAfter past
 place-none code at e = rw e
 
-known-operation : (a c f x y : ℕ) → instructionRule a c f x y ≡ true → x ≤ 2
+known-operation : (a c f x y : ℕ) → instructionRule a c f x y ≡ true → x ≤ 3
 unfolding instructionRule
 known-operation a c f zero y h = omega arith
 known-operation a c f (suc zero) y h = omega arith
 known-operation a c f (suc (suc zero)) y h = omega arith
-known-operation a c f (suc (suc (suc n))) y h = absurd (false≢true h)
+known-operation a c f (suc (suc (suc zero))) y h = omega arith
+known-operation a c f (suc (suc (suc (suc n)))) y h = absurd (false≢true h)
 
 -- code that keeps number 9 reads as the model's instructions
 pub read-instructions : (a c f : ℕ) (code : List ℕ) → everyPair (instructionRule a c f) code ≡ true

@@ -26,9 +26,9 @@ unfoldable pub known : Bool → Instr → Option Instr
 known true i = some i
 known false i = none
 
--- bytes whose operation is none of the three are no instruction (M 2.8)
+-- bytes whose operation is none of the four are no instruction (M 2.8); operands are not tested
 unfoldable pub instructionOf : ℕ → ℕ → Option Instr
-instructionOf operation operand = known (leb operation 2) (decode operation operand)
+instructionOf operation operand = known (leb operation 3) (decode operation operand)
 
 -- The instruction at a position of any bytes, counted in instructions: none past the end, none where one byte is left, none where the operation is
 -- unknown. The code of a method of a bundle that opens is whole and has no unknown operation, so there it is none at the end alone (`ReadsBody`).

@@ -19,7 +19,8 @@ pub enum Reading {
     End,
 }
 
-// The work: the instruction at a position of any bytes. Where fewer than two bytes are left, or the operation is none of 0, 1 and 2, there is none.
+// The work: the instruction at a position of any bytes. Where fewer than two bytes are left, or the operation is none of 0 to 3, there is none. No operand is tested,
+// so that a RESEND is one whatever stands behind it.
 pub fn read_at(code: &[u8], at: usize) -> Reading
     ensures { λ r. ⌜ readingSaid r ≡ readingAt (now (code .entry)) at ⌝ }
 {
@@ -27,7 +28,7 @@ pub fn read_at(code: &[u8], at: usize) -> Reading
         return Reading::End;
     }
     let operation = byte_at(code, 2 * at);
-    if operation > 2 {
+    if operation > 3 {
         return Reading::End;
     }
     let operand = byte_at(code, 2 * at + 1);

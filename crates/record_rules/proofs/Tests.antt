@@ -7,10 +7,11 @@ use mathlib.Core.Bool.{Bool, true, _||_}
 use mathlib.Core.List.{List, [], _∷_}
 use lib.Dec.{eqb, ltb}
 use lib.ListN.{length, getD}
-use borrow.Author.Tests.{le-ltb, ne-eqb}
+use borrow.Author.Tests.{ltb-true, lt-ltb, le-ltb, eqb-true, eq-eqb, ne-eqb}
 use Rattle.rules.specs.Bounded.{every}
 use Rattle.rules.specs.Bytes.{part}
 use Rattle.rules.specs.Layout.{tupleRule, placeRule, risesAbove, rises, everyPair, instructionRule}
+use Rattle.rules.proofs.Lists.{agree}
 use Rattle.rules.proofs.Places.{part-at, part-length}
 use Rattle.rules.proofs.Decides.{Decides, decides-none, decides-next, decides-agree, decides-both, every-decides, tuple-decides}
 use Rattle.record_rules.specs.Tests.{from, parentsRule, parentRule, pairRule, entryOf, Limits, byLimits}
@@ -83,5 +84,8 @@ unfolding instructionRule entryOf
 limit-decides limits l zero operand = refl
 limit-decides limits l (suc zero) operand = refl
 limit-decides limits l (suc (suc zero)) operand = refl
-limit-decides limits l (suc (suc (suc n))) operand =
-    rw (le-ltb (suc (suc (suc n))) 3 (omega arith), l .others) (sym (le-ltb operand 0 (omega arith)))
+limit-decides limits l (suc (suc (suc zero))) operand =
+    rw (l .resends)
+    (agree (eqb operand 0) (ltb operand 1) (λ e. lt-ltb operand 1 (omega (arith, eqb-true operand 0 e))) (λ e. eq-eqb operand 0 (omega (arith, ltb-true operand 1 e))))
+limit-decides limits l (suc (suc (suc (suc n)))) operand =
+    rw (le-ltb (suc (suc (suc (suc n)))) 4 (omega arith), l .others) (sym (le-ltb operand 0 (omega arith)))

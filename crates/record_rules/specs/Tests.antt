@@ -34,16 +34,17 @@ bodyRule b m =
 abbrev pub pairRule : (ℕ → ℕ) → (ℕ → ℕ → Bool) → ℕ → Bool
 pairRule f p i = p (f (2 * i)) (f (2 * i + 1))
 
--- What the operands of a body stay below, by operation: argument places, classes and functions, and 0 for every other operation.
+-- What the operands of a body stay below, by operation: argument places, classes and functions, 1 for a resend, and 0 for every other operation.
 abbrev pub entries : ℕ
-entries = 4
+entries = 5
 
 unfoldable pub entryOf : ℕ → ℕ
-entryOf operation = cond (ltb operation 3) operation 3
+entryOf operation = cond (ltb operation 4) operation 4
 
 pub record Limits (limits : List ℕ) : Type 0 where
   pub long : length limits ≡ entries
-  pub others : getD limits 3 0 ≡ 0
+  pub resends : getD limits 3 0 ≡ 1
+  pub others : getD limits 4 0 ≡ 0
 
 -- `instructionRule` with these limits
 abbrev pub byLimits : List ℕ → ℕ → ℕ → Bool

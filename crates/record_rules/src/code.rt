@@ -14,8 +14,8 @@ ghost use Rattle.rules.specs.Layout.{everyPair, methodRule, codeRule};
 ghost use Rattle.layout.specs.Tables.{Placed};
 ghost use Rattle.record_rules.specs.Tests.{from, pairRule, entries, entryOf, Limits, byLimits};
 
-// What an operand stays below: an entry for each of the three operations, and one for all others, which have no lawful operand.
-const OTHERS: usize = 3;
+// What an operand stays below: an entry for each of the four operations, and one for all others, which have no lawful operand.
+const OTHERS: usize = 4;
 
 // The entry of an operation.
 fn entry(operation: usize) -> usize
@@ -27,7 +27,7 @@ fn entry(operation: usize) -> usize
     OTHERS
 }
 
-// Whether the operation is unknown, or its operand is no argument place, no class or no function.
+// Whether the operation is unknown, or its operand is no argument place, no class or no function, or not the 0 of a resend.
 fn instruction_breaks(limits: &[usize], operation: usize, operand: usize) -> bool
     requires { ⌜ Limits (now limits) ⌝ }
     ensures { λ r. ⌜ r ≡ not (byLimits (now (limits .entry)) operation operand) ⌝ }
@@ -72,6 +72,6 @@ pub fn code_breaks(bytes: &[u8], b: Bundle, m: usize) -> bool
     let n = arity(bytes, b, function(bytes, b, m));
     let start = body_offset(bytes, b, m);
     let size = body_length(bytes, b, m);
-    let limits = [n, b.classes, b.functions, 0];
+    let limits = [n, b.classes, b.functions, 1, 0];
     pairs_break(bytes, &limits, b.code_at + start, size / 2)
 }

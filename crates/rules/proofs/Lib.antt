@@ -8,6 +8,7 @@ pub mod Wellformed
 pub mod Subclass
 pub mod Selection
 pub mod Lookup
+pub mod Resend
 pub mod Coverage
 pub mod First
 pub mod Alike

@@ -36,6 +36,12 @@ pub and-both : (a b : Bool) → a ≡ true → b ≡ true → (a && b) ≡ true
 and-both true b p q = q
 and-both false b p q = p
 
+pub and-swap : (a b c : Bool) → (a && b && c) ≡ (a && c && b)
+and-swap true true c = sym (and-true c)
+and-swap true false true = refl
+and-swap true false false = refl
+and-swap false b c = refl
+
 pub or-cases : (a b : Bool) → (a || b) ≡ true → (a ≡ true) ⊎ (b ≡ true)
 or-cases true b e = inl refl
 or-cases false b e = inr e
@@ -154,6 +160,11 @@ module _ {A : Type 0} where
       go (inr t) r = rw t r
 
   -- two tests that agree on the elements keep the same
+  pub keep-all : (p : A → Bool) (xs : List A) → ((x : A) → List·Memᴰ x xs → p x ≡ true) → keep p xs ≡ xs
+  unfolding keep
+  keep-all p [] h = refl
+  keep-all p (x ∷ xs) h = rw (h x (List·Memᴰ·head refl)) (ap (λ (l : List A). x ∷ l) (keep-all p xs (λ y m. h y (List·Memᴰ·tail m))))
+
   pub keep-agree : (p q : A → Bool) (xs : List A) → ((x : A) → List·Memᴰ x xs → p x ≡ q x) → keep p xs ≡ keep q xs
   unfolding keep
   keep-agree p q [] h = refl
@@ -298,6 +309,34 @@ keep-length {A} p (x ∷ xs) = go (test (p x)) (keep-length p xs)
     go : (p x ≡ true) ⊎ (p x ≡ false) → length (keep p xs) ≤ length xs → length (keep p (x ∷ xs)) ≤ suc (length xs)
     go (inl e) h = rw (keep-hit p x xs e) (omega arith)
     go (inr e) h = rw (keep-miss p x xs e) (omega arith)
+
+-- a test that passes only where another does keeps no more, and fewer where it fails at an element that the other keeps
+module _ {A : Type 0} (p q : A → Bool) where
+  -- with one element more, as many less as before
+  keep-step : (less : ℕ) (x : A) (xs : List A) → (p x ≡ true → q x ≡ true) → less + length (keep p xs) ≤ length (keep q xs)
+      → less + length (keep p (x ∷ xs)) ≤ length (keep q (x ∷ xs))
+  keep-step less x xs sub h = go (test (p x)) (test (q x))
+    where
+      go : (p x ≡ true) ⊎ (p x ≡ false) → (q x ≡ true) ⊎ (q x ≡ false) → less + length (keep p (x ∷ xs)) ≤ length (keep q (x ∷ xs))
+      go (inl e) (inl f) = rw (keep-hit p x xs e, keep-hit q x xs f) (omega arith)
+      go (inl e) (inr f) = absurd (false≢true (sym f ∙ sub e))
+      go (inr e) (inl f) = rw (keep-miss p x xs e, keep-hit q x xs f) (omega arith)
+      go (inr e) (inr f) = rw (keep-miss p x xs e, keep-miss q x xs f) h
+
+  keep-no-more : (xs : List A) → ((x : A) → List·Memᴰ x xs → p x ≡ true → q x ≡ true) → 0 + length (keep p xs) ≤ length (keep q xs)
+  unfolding keep
+  keep-no-more [] sub = omega arith
+  keep-no-more (x ∷ xs) sub = keep-step 0 x xs (sub x (List·Memᴰ·head refl)) (keep-no-more xs (λ y m. sub y (List·Memᴰ·tail m)))
+
+  pub keep-fewer : (xs : List A) → ((x : A) → List·Memᴰ x xs → p x ≡ true → q x ≡ true) → {y : A} → List·Memᴰ y xs → q y ≡ true → p y ≡ false
+      → 1 + length (keep p xs) ≤ length (keep q xs)
+  keep-fewer [] sub m f e = absurd (List·Memᴰ·not-nil m)
+  keep-fewer (x ∷ xs) sub {y} m f e = at (List·Memᴰ·cases-cons m) (λ n. keep-fewer xs (λ z k. sub z (List·Memᴰ·tail k)) n f e)
+    where
+      at : (y ≡ x) ⊎ List·Memᴰ y xs → (List·Memᴰ y xs → 1 + length (keep p xs) ≤ length (keep q xs)) → 1 + length (keep p (x ∷ xs)) ≤ length (keep q (x ∷ xs))
+      at (inl s) later =
+          rw (keep-miss p x xs (ap p (sym s) ∙ e), keep-hit q x xs (ap q (sym s) ∙ f)) (omega (arith, keep-no-more xs (λ z k. sub z (List·Memᴰ·tail k))))
+      at (inr n) later = keep-step 1 x xs (sub x (List·Memᴰ·head refl)) (later n)
 
 pub upto-below : (n : ℕ) {k : ℕ} → List·Memᴰ k (upto n) → k < n
 unfolding upto

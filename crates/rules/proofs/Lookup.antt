@@ -8,7 +8,7 @@ use native.Mathlib.Decide.{ℕ-discrete}
 use mathlib.Core.Path.{_≡_, refl, sym, ap, ap₂, _∙_}
 use mathlib.Core.Bool.{true, false, _&&_, false≢true, and-true}
 use mathlib.Core.Logic.{_⊎_, inl, inr, _↔_}
-use mathlib.Core.List.{List, [], _∷_, _++_, reverse, List·Memᴰ, List·Memᴰ·head, List·Memᴰ·tail, List·Memᴰ·not-nil, List·Memᴰ·cases-cons}
+use mathlib.Core.List.{List, [], _∷_, _++_, reverse, List·Memᴰ, List·Memᴰ·head, List·Memᴰ·tail, List·Memᴰ·cases-cons}
 use mathlib.Core.Option.{none}
 use lib.Dec.{eqb}
 use lib.ListN.{length, getD, take}
@@ -17,9 +17,9 @@ use borrow.Author.Tests.{eqb-true, eq-eqb}
 use Rattle.rules.specs.Bounded.{upto, first, matching}
 use Rattle.rules.specs.Model.{Model, Wellformed}
 use Rattle.rules.specs.Subclass.{subclass, under}
-use Rattle.rules.specs.Lookup.{Found, found, missing, ambiguous, applies, applicable, left, asSpecific, leads, unbeaten, rivals, leaderOr, select, lookup}
-use Rattle.rules.proofs.Lists.{test, and-left, and-right, and-both, getD-mem, mem-length, keep-mem, keep-in, matching-snoc, first-none, none-first, upto-below, below-upto, Rising, Falling, rising-upto, ordered-keep, ordered-reverse}
-use Rattle.rules.proofs.Selection.{MethodOf, leads-all, all-leads, unbeaten-alone, alone-unbeaten, select-found, select-missing, select-ambiguous, none-selected, rivals-mem, rivals-in, specific-antisym, two-rivals}
+use Rattle.rules.specs.Lookup.{Found, found, missing, ambiguous, applies, applicable, left, asSpecific, leads, unbeaten, rivals, leaderOr, lookup}
+use Rattle.rules.proofs.Lists.{test, and-left, and-right, and-both, keep-mem, keep-in, matching-snoc, upto-below, below-upto, Rising, Falling, rising-upto, ordered-keep, ordered-reverse}
+use Rattle.rules.proofs.Selection.{MethodOf, leads-all, all-leads, unbeaten-alone, alone-unbeaten, select-found, nothing-selected, none-leads, select-ambiguous, none-selected, rivals-mem, rivals-in, specific-antisym, two-rivals}
 
 -- an applicable method of a function
 pub record Candidate (M : Model) (f : ℕ) (args : List ℕ) (m : ℕ) : Type 0 where
@@ -74,19 +74,12 @@ pub lookup-leader : (M : Model) (f : ℕ) (args : List ℕ) (m : ℕ) → lookup
 unfolding lookup
 lookup-leader M f args m e = let (h, l) = select-found M (applicable M f args) m e in leads-leader M f args m h l
 
-no-candidate : (M : Model) (f : ℕ) (args : List ℕ) → ((m : ℕ) → Candidate M f args m → ⊥) → applicable M f args ≡ []
-no-candidate M f args h = go (applicable M f args) (λ m k. h m (applicable-candidate M f args k))
-  where
-    go : (ms : List ℕ) → ((m : ℕ) → List·Memᴰ m ms → ⊥) → ms ≡ []
-    go [] k = refl
-    go (m ∷ ms) k = absurd (k m (List·Memᴰ·head refl))
-
 -- lookup fails by 10 exactly where no method applies (M 5.4)
 pub lookup-missing : (M : Model) (f : ℕ) (args : List ℕ) → (lookup M f args ≡ missing) ↔ ((m : ℕ) → Candidate M f args m → ⊥)
-unfolding lookup select
+unfolding lookup
 lookup-missing M f args = (
-  λ e m c. List·Memᴰ·not-nil (rw (select-missing M (applicable M f args) e) at (candidate-applicable M f args c)),
-  λ h. rw (no-candidate M f args h),
+  λ e m c. nothing-selected M (applicable M f args) .0 e m (candidate-applicable M f args c),
+  λ free. nothing-selected M (applicable M f args) .1 (λ m h. free m (applicable-candidate M f args h)),
 )
 
 applicable-rising : (M : Model) (f : ℕ) (args : List ℕ) → Rising (applicable M f args)
@@ -96,27 +89,12 @@ applicable-rising M f args = ordered-keep _<_ (λ m. eqb (M .function m) f && ap
 -- lookup fails by 11 exactly where a method applies and none leads (M 5.5)
 pub lookup-ambiguous : (M : Model) (f : ℕ) (args : List ℕ)
     → ((m : ℕ) × (n : ℕ) × (lookup M f args ≡ ambiguous m n)) ↔ (((m : ℕ) × Candidate M f args m) × ((m : ℕ) → Leader M f args m → ⊥))
-unfolding lookup leaderOr
-lookup-ambiguous M f args = (λ (m, n, e). forth m n e, λ ((m, c), free). back m c free)
-  where
-    forth : (m n : ℕ) → select M (applicable M f args) ≡ ambiguous m n → ((m : ℕ) × Candidate M f args m) × ((m : ℕ) → Leader M f args m → ⊥)
-    forth m n e =
-        let ms = applicable M f args in
-        let (one, free) = select-ambiguous M ms m n e in (
-          (getD ms 0 0, applicable-candidate M f args (getD-mem ms 0 0 one)),
-          λ k l. false≢true (sym (first-none (leads M ms) ms free (candidate-applicable M f args (l .candidate))) ∙ leader-leads M f args k l),
-        )
-
-    fails : ((m : ℕ) → Leader M f args m → ⊥) → (m : ℕ) → List·Memᴰ m (applicable M f args)
-        → (leads M (applicable M f args) m ≡ true) ⊎ (leads M (applicable M f args) m ≡ false) → leads M (applicable M f args) m ≡ false
-    fails free m h (inl e) = absurd (free m (leads-leader M f args m h e))
-    fails free m h (inr e) = e
-
-    back : (m : ℕ) → Candidate M f args m → ((m : ℕ) → Leader M f args m → ⊥) → (m : ℕ) × (n : ℕ) × (select M (applicable M f args) ≡ ambiguous m n)
-    back m c free =
-        let ms = applicable M f args in
-        let unled = none-first (leads M ms) ms (λ k h. fails free k h (test (leads M ms k))) in
-        (_, _, none-selected M ms (mem-length ms (candidate-applicable M f args c)) unled)
+unfolding lookup
+lookup-ambiguous M f args = (
+  λ e. let ((m, h), free) = none-leads M (applicable M f args) .0 e in
+      ((m, applicable-candidate M f args h), λ k l. free k (candidate-applicable M f args (l .candidate)) (leader-leads M f args k l)),
+  λ ((m, c), free). none-leads M (applicable M f args) .1 ((m, candidate-applicable M f args c), λ k h e. free k (leads-leader M f args k h e)),
+)
 
 candidate-method : {M : Model} {f : ℕ} {args : List ℕ} {m : ℕ} → Candidate M f args m → MethodOf M f m
 candidate-method c = record { bound = c .bound; ofFunction = c .ofFunction }

@@ -88,8 +88,7 @@ module _ (M : Model) (w : Wellformed M) where
       record {
         of-value = λ v vs e. absurd (false≢true (cc));
         of-depth = λ vs e. absurd (false≢true (cc));
-        of-values = λ g vs e. absurd (omega (arith, stopped-number e));
-        of-new = λ g vs e. absurd (omega (arith, stopped-number e));
+        of-frame = λ number h g vs e. absurd (omega (arith, stopped-number e, h));
         of-send = λ f args number ms t vs e. (f, args, ms, cc, target-named f args ms (t ∙ ap (λ (n : ℕ). stops n ms) (stopped-number e)));
       }
 

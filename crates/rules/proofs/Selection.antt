@@ -6,7 +6,7 @@ use native.Mathlib.Omega.{arith}
 use native.Mathlib.Nat.{not-suc-le-zero}
 use mathlib.Core.Path.{_≡_, refl, sym, ap, _∙_}
 use mathlib.Core.Bool.{true, false, not, _||_, false≢true}
-use mathlib.Core.Logic.{_⊎_, inl, inr}
+use mathlib.Core.Logic.{_⊎_, inl, inr, _↔_}
 use mathlib.Core.List.{List, [], _∷_, reverse, List·Memᴰ, List·Memᴰ·head, List·Memᴰ·not-nil, List·Memᴰ·eq-of-singleton}
 use mathlib.Core.Option.{Option, none, some}
 use lib.Dec.{eqb}
@@ -15,7 +15,7 @@ use borrow.Author.Tests.{eqb-true, eq-eqb, not-true}
 use Rattle.rules.specs.Bounded.{first}
 use Rattle.rules.specs.Model.{Model, Wellformed}
 use Rattle.rules.specs.Lookup.{found, missing, ambiguous, asSpecific, leads, unbeaten, rivals, leaderOr, select}
-use Rattle.rules.proofs.Lists.{or-cases, or-left, or-right, every-mem, every-from, getD-mem, keep-mem, keep-in, first-mem, first-none, mem-reverse, reverse-mem}
+use Rattle.rules.proofs.Lists.{test, or-cases, or-left, or-right, every-mem, every-from, getD-mem, mem-length, keep-mem, keep-in, first-mem, first-none, none-first, mem-reverse, reverse-mem}
 use Rattle.rules.proofs.Order.{minimal}
 use Rattle.rules.proofs.Subclass.{under-itself, under-trans, under-antisym}
 
@@ -94,6 +94,34 @@ select-ambiguous M (x ∷ xs) m n e = (omega arith, go (first (leads M (x ∷ xs
     go none q = q
     go (some k) q = absurd (false≢true (cc (ap (λ (r : Option ℕ). leaderOr r (rivals M (x ∷ xs))) q)))
 
+-- nothing is selected exactly where the list is empty
+pub nothing-selected : (M : Model) (ms : List ℕ) → (select M ms ≡ missing) ↔ ((m : ℕ) → List·Memᴰ m ms → ⊥)
+unfolding select
+nothing-selected M ms = (λ e m h. List·Memᴰ·not-nil (rw (select-missing M ms e) at h), λ free. rw (empty ms free))
+  where
+    empty : (ms : List ℕ) → ((m : ℕ) → List·Memᴰ m ms → ⊥) → ms ≡ []
+    empty [] free = refl
+    empty (m ∷ ms) free = absurd (free m (List·Memᴰ·head refl))
+
+-- and it is ambiguous exactly where there are some and none leads
+pub none-leads : (M : Model) (ms : List ℕ)
+    → ((m : ℕ) × (n : ℕ) × (select M ms ≡ ambiguous m n)) ↔ (((m : ℕ) × List·Memᴰ m ms) × ((m : ℕ) → List·Memᴰ m ms → leads M ms m ≡ true → ⊥))
+unfolding leaderOr
+none-leads M ms = (λ (m, n, e). forth m n e, λ ((m, h), free). back m h free)
+  where
+    forth : (m n : ℕ) → select M ms ≡ ambiguous m n → ((m : ℕ) × List·Memᴰ m ms) × ((m : ℕ) → List·Memᴰ m ms → leads M ms m ≡ true → ⊥)
+    forth m n e =
+        let (one, free) = select-ambiguous M ms m n e in
+        ((getD ms 0 0, getD-mem ms 0 0 one), λ k h l. false≢true (sym (first-none (leads M ms) ms free h) ∙ l))
+
+    fails : (k : ℕ) → (leads M ms k ≡ true → ⊥) → (leads M ms k ≡ true) ⊎ (leads M ms k ≡ false) → leads M ms k ≡ false
+    fails k free (inl e) = absurd (free e)
+    fails k free (inr e) = e
+
+    back : (m : ℕ) → List·Memᴰ m ms → ((m : ℕ) → List·Memᴰ m ms → leads M ms m ≡ true → ⊥) → (m : ℕ) × (n : ℕ) × (select M ms ≡ ambiguous m n)
+    back m h free =
+        (_, _, none-selected M ms (mem-length ms h) (none-first (leads M ms) ms (λ k i. fails k (free k i) (test (leads M ms k)))))
+
 -- an element of the rivals is one of the list that none of the rest equals or beats, and back
 pub rivals-mem : (M : Model) (ms : List ℕ) {m : ℕ} → List·Memᴰ m (rivals M ms) → List·Memᴰ m ms × (unbeaten M ms m ≡ true)
 unfolding rivals
@@ -110,7 +138,7 @@ module _ (M : Model) (w : Wellformed M) where
   specific-trans a b c h = under-trans M w (M .specialisers a) (M .specialisers b) (M .specialisers c) (w .specialisers-present a h)
 
   -- two with equal specialisers are one
-  no-twin : (a b : ℕ) → a < M .methods → b < M .methods → M .function a ≡ M .function b → M .specialisers a ≡ M .specialisers b → a ≡ b
+  pub no-twin : (a b : ℕ) → a < M .methods → b < M .methods → M .function a ≡ M .function b → M .specialisers a ≡ M .specialisers b → a ≡ b
   no-twin a b p q g e =
       let below : ¬ (a < b) = λ l. w .no-twins b a q l (sym g) (sym e) in
       let above : ¬ (b < a) = λ l. w .no-twins a b p l g e in

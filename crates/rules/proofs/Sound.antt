@@ -4,27 +4,30 @@
 -- Assumes nothing.
 use Prim.Native.Nat.{ℕ, suc, _<_}
 use native.Mathlib.Omega.{arith}
-use mathlib.Core.Path.{_≡_, refl, ap}
+use mathlib.Core.Path.{_≡_, refl, sym, ap, _∙_}
 use mathlib.Core.Bool.{Bool, true, false, cond, _&&_, false≢true}
-use mathlib.Core.List.{List, [], _∷_, List·Memᴰ, List·Memᴰ·head, List·Memᴰ·not-nil, List·Memᴰ·eq-of-singleton}
+use mathlib.Core.List.{List, [], _∷_, List·Memᴰ, List·Memᴰ·head, List·Memᴰ·eq-of-singleton}
 use lib.Dec.{leb, ltb}
 use lib.ListN.{length, getD, take, drop}
 use borrow.Author.Tests.{ltb-true}
 use Rattle.rules.specs.Bounded.{every, matching}
-use Rattle.rules.specs.Model.{Model, Instr, arg, new, send, Wellformed, operandRule, present, modelOf}
+use Rattle.rules.specs.Model.{Model, Instr, arg, new, send, resend, Wellformed, operandRule, present, modelOf}
 use Rattle.rules.specs.Subclass.{subclass, under}
-use Rattle.rules.specs.Lookup.{found, applies, lookup}
-use Rattle.rules.specs.Types.{Static, inType, licenses, sendType, argType, arguments, Typing, typed, breaks, Effect, leaves, breaksBy, sendEffect, effect, ending, afterEffect, typeFrom, typeBody}
+use Rattle.rules.specs.Lookup.{Found, found, missing, ambiguous, applies, lookup}
+use Rattle.rules.specs.Resend.{resendTarget}
+use Rattle.rules.specs.Types.{Static, inType, licenses, sendType, argType, argTypes, arguments, suits, Typing, typed, breaks, Effect, leaves, breaksBy, sendEffect, resendEffect, effect, ending, afterEffect, typeFrom, typeBody}
 use Rattle.rules.specs.Coverage.{covers, declaredHold, holds, judge, concreteClass}
-use Rattle.rules.specs.Machine.{Frame, value, Turn, settled, settle, push, enters, targetFound, target, opened, enter, callTarget, call, after, turn, Send, meeting, sent, run, maxFrames}
-use Rattle.rules.specs.Sound.{Covering, SoundSend, SoundEnding, SoundRun, Demand3}
-use Rattle.rules.proofs.Lists.{and-left, and-right, and-both, every-mem, every-from, any-mem, getD-mem, matching-length, matching-at, matching-trans, matching-take, matching-drop, matching-reverse}
+use Rattle.rules.specs.Machine.{Frame, Turn, settled, settle, push, enters, targetFound, target, opened, enter, callTarget, call, after, turn, meeting, sent, resent, run, maxFrames}
+use Rattle.rules.specs.Sound.{Covering, SoundSend, SoundResend, SoundEnding, SoundRun, Demand3}
+use Rattle.rules.proofs.Lists.{and-left, and-right, and-both, every-mem, every-from, any-mem, getD-mem, matching-length, matching-at, matching-from, matching-trans, matching-take, matching-drop, matching-reverse}
 use Rattle.rules.proofs.Subclass.{subclass-itself, subclass-trans}
 use Rattle.rules.proofs.Lookup.{lookup-leader}
-use Rattle.rules.proofs.Types.{Licence, result-licence}
-use Rattle.rules.proofs.Coverage.{concrete-present, Holding, judge-holds, Acceptable, accepted-acceptable}
+use Rattle.rules.proofs.Resend.{found-target, overridden-applies}
+use Rattle.rules.proofs.Types.{Licence, result-licence, arg-types-length, arg-type-at}
+use Rattle.rules.proofs.Coverage.{concrete-present, concretes-present, Holding, judge-holds, Acceptable, accepted-acceptable}
 use Rattle.rules.proofs.Wellformed.{opened-wellformed}
-use Rattle.rules.proofs.Runs.{before, Settles, Turns, Invariant, cond-turns, run-keeps, ends-so}
+use Rattle.rules.proofs.Machine.{resend-enters}
+use Rattle.rules.proofs.Runs.{before, Settles, Turns, Each, Invariant, each-none, each-one, cond-turns, run-keeps, ends-so}
 
 -- A value conforms to a type when it is a concrete class under each class that generates the type.
 unfoldable pub conforms : Model → ℕ → Static → Bool
@@ -67,6 +70,17 @@ typed-send : (t : Static) (below stack : List Static) → sendEffect t below ≡
 unfolding sendEffect
 typed-send [] below stack e = absurd (false≢true (cc))
 typed-send (c ∷ cs) below stack e = (cc, omega arith)
+
+typed-resend : (M : Model) (m : ℕ) (stack : List Static) (r : Found) (next : List Static) → resendEffect M m stack r ≡ leaves next
+    → (n : ℕ) × (r ≡ found n) × (suits M m n ≡ true) × (next ≡ (M .result n ∷ []) ∷ stack)
+unfolding resendEffect
+typed-resend M m stack missing next e = absurd (false≢true (cc))
+typed-resend M m stack (ambiguous a b) next e = absurd (false≢true (cc))
+typed-resend M m stack (found n) next e = let (s, q) = go (suits M m n) e in (n, refl, s, q)
+  where
+    go : (t : Bool) → cond t (leaves ((M .result n ∷ []) ∷ stack)) (breaksBy 27) ≡ leaves next → (t ≡ true) × (next ≡ (M .result n ∷ []) ∷ stack)
+    go true q = (refl, cc)
+    go false q = absurd (false≢true (cc))
 
 typed-result : (t : Bool) (at : ℕ) → cond t typed (breaks 17 at) ≡ typed → t ≡ true
 typed-result true at e = refl
@@ -114,6 +128,18 @@ module _ (M : Model) (w : Wellformed M) where
       (every-mem (concreteClass M) args c (getD-mem args i 0 h))
       (and-both (subclass M (getD args i 0) (getD (M .specialisers m) i 0)) _ (matching-at (subclass M) args (M .specialisers m) 0 0 a i h)
       (and-both (subclass M (getD args i 0) (getD (M .declared m) i 0)) true (matching-at (subclass M) args (M .declared m) 0 0 d i h) refl))
+
+  -- so the declared classes of a method that they suit hold them
+  suited-held : (m : ℕ) → m < M .methods → (args : List ℕ) → every (concreteClass M) args ≡ true → applies M args m ≡ true → declaredHold M m args ≡ true
+      → (n : ℕ) → suits M m n ≡ true → declaredHold M n args ≡ true
+  unfolding applies declaredHold under suits
+  suited-held m bound args c a d n s =
+      let many = matching-length (subclass M) args (M .specialisers m) a in
+      let long = w .specialiser-places m bound in
+      let known =
+      matching-from (conforms M) args (argTypes M m) 0 (argType M m 0) (many ∙ long ∙ sym (arg-types-length M m))
+      (λ i h. rw (arg-type-at M m i (omega (arith, h, many, long))) (argument-conforms m args i c a d h)) in
+      matching-trans (conforms M) (inType M) (subclass M) args (argTypes M m) (M .declared n) (λ v t b k. conforms-in v t b) known s
 
 target-enters : (M : Model) (f : ℕ) (args : List ℕ) (m : ℕ) → lookup M f args ≡ found m → declaredHold M m args ≡ true → target M f args ≡ enters m
 unfolding target targetFound
@@ -176,10 +202,29 @@ module _ (M : Model) (w : Wellformed M) (ok : Acceptable M) where
     settled-sound [] (v ∷ x ∷ vs) g gs t b =
         let (y, q, c, u) = one-left (g .method) (g .at) (v ∷ x ∷ vs) (t .types) (t .conforming) (t .typing) in absurd (false≢true (cc))
 
-    -- a covered send of concrete classes finds its method, and opens a well-typed frame or is Deep
+    -- a method that applies, with declared classes that hold the arguments, opens a well-typed frame or is Deep
+    enter-sound : (m : ℕ) (args : List ℕ) (gs : List Frame) → m < M .methods → applies M args m ≡ true → every (concreteClass M) args ≡ true
+        → declaredHold M m args ≡ true → Callers M f₀ args₀ m gs → SoundTurn (enter M m args gs)
+    unfolding enter opened typeBody matching
+    enter-sound m args gs bound a c d b =
+        cond-turns (SoundFrame M f₀ args₀) (SoundEnding M f₀ args₀) (ltb (length gs) maxFrames) _ _ (
+          record {
+            bound = bound;
+            applying = a;
+            concrete = c;
+            declaredHolds = d;
+            types = [];
+            conforming = refl;
+            typing = ok .bodies m bound;
+            operands = w .body-operands m bound;
+          },
+          b,
+        ) tt
+
+    -- a covered send of concrete classes finds its method, and enters it
     call-sound : (f : ℕ) (args : List ℕ) (gs : List Frame) (s : ℕ) → Covering M f args s → every (concreteClass M) args ≡ true
         → ((m : ℕ) → lookup M f args ≡ found m → Callers M f₀ args₀ m gs) → SoundSend M (meeting M f args) × SoundTurn (call M f args gs)
-    unfolding meeting call callTarget enter opened typeBody matching
+    unfolding meeting call callTarget
     call-sound f args gs s v c b =
         let (m, j) = ok .signatures s (v .present) args c (v .covered) in
         let d = judge-holds M s args m j in
@@ -196,20 +241,7 @@ module _ (M : Model) (w : Wellformed M) (ok : Acceptable M) where
             byCheck = λ r k. judged-by f args m r c l k .0;
             declaredHolds = d .declaredHolds;
           },
-          rw t
-              (cond-turns (SoundFrame M f₀ args₀) (SoundEnding M f₀ args₀) (SoundSend M) (ltb (length gs) maxFrames) _ _ (
-                record {
-                  bound = n .bound;
-                  applying = n .applying;
-                  concrete = c;
-                  declaredHolds = d .declaredHolds;
-                  types = [];
-                  conforming = refl;
-                  typing = ok .bodies m (n .bound);
-                  operands = w .body-operands m (n .bound);
-                },
-                b m l,
-              ) tt),
+          rw t (enter-sound m args gs (n .bound) (n .applying) c (d .declaredHolds) (b m l)),
         )
 
     -- the frame after an instruction, with these types on its stack
@@ -235,10 +267,10 @@ module _ (M : Model) (w : Wellformed M) (ok : Acceptable M) where
     unfolding arguments
     arguments-conform n stack types e = matching-reverse (conforms M) (take n stack) (take n types) (matching-take (conforms M) n stack types e)
 
-    -- an instruction of a well-typed frame: what it comes to is sound, and so are the sends that it meets
+    -- an instruction of a well-typed frame: what it comes to is sound, and so are the sends that it meets and the resends that it comes to
     turn-sound : (i : Instr) (g : Frame) (gs : List Frame) → SoundFrame M f₀ args₀ (before i g) gs
-        → SoundTurn (turn M i g gs) × ((x : Send) → List·Memᴰ x (sent M i g) → SoundSend M x)
-    unfolding sent turn after typeFrom afterEffect effect every operandRule concreteClass applies under matching
+        → SoundTurn (turn M i g gs) × Each (SoundSend M) (sent M i g) × Each (SoundResend M) (resent M i g)
+    unfolding sent resent turn after typeFrom afterEffect effect every operandRule concreteClass applies under matching
     turn-sound (arg k) g gs (a, b) =
         let m = g .method in
         let inside : k < M .arity (M .function m) = ltb-true k (M .arity (M .function m)) (and-left (ltb k (M .arity (M .function m))) _ (a .operands)) in
@@ -249,7 +281,8 @@ module _ (M : Model) (w : Wellformed M) (ok : Acceptable M) where
                 (and-both (conforms M (getD (g .args) k 0) (argType M m k)) (matching (conforms M) (g .stack) (a .types)) c (a .conforming)) (a .typing),
             b,
           ),
-          λ x n. absurd (List·Memᴰ·not-nil n),
+          each-none (SoundSend M),
+          each-none (SoundResend M),
         )
     turn-sound (new c) g gs (a, b) =
         let (next, q, e) = typed-step (effect M (g .method) (a .types) (new c)) (g .at) (λ next. typeFrom M (g .method) (suc (g .at)) next (g .rest)) (a .typing) in
@@ -263,7 +296,8 @@ module _ (M : Model) (w : Wellformed M) (ok : Acceptable M) where
                 (and-both (conforms M c (c ∷ [])) (matching (conforms M) (g .stack) (a .types)) k (a .conforming)) (rw same at e),
             b,
           ),
-          λ x m. absurd (List·Memᴰ·not-nil m),
+          each-none (SoundSend M),
+          each-none (SoundResend M),
         )
     turn-sound (send f) g gs (a, b) =
         let n = M .arity f in
@@ -291,9 +325,30 @@ module _ (M : Model) (w : Wellformed M) (ok : Acceptable M) where
           b,
         )) in
         let long : leb n (length (g .stack)) ≡ true = rw (matching-length (conforms M) (g .stack) (a .types) (a .conforming)) enough in
-        rw long (t, λ y k. rw (List·Memᴰ·eq-of-singleton k) x)
+        rw long (t, each-one (SoundSend M) x, each-none (SoundResend M))
+    turn-sound resend g gs (a, b) =
+        let m = g .method in
+        let (next, q, e) = typed-step (effect M m (a .types) resend) (g .at) (λ next. typeFrom M m (suc (g .at)) next (g .rest)) (a .typing) in
+        let (n, r, s, same) = typed-resend M m (a .types) (resendTarget M m) next q in
+        let o = found-target M m n r .chosen in
+        let held = suited-held M w m (a .bound) (g .args) (a .concrete) (a .applying) (a .declaredHolds) n s in
+        let applying = overridden-applies M w m (a .bound) n o (g .args) (concretes-present M (g .args) (a .concrete)) (a .applying) in
+        let entered =
+        enter-sound n (g .args) (after g (g .stack) ∷ gs) (o .bound) applying (a .concrete) held (
+          λ v d u. passed resend g a (v ∷ g .stack) ((M .result n ∷ []) ∷ a .types)
+              (and-both (conforms M v (M .result n ∷ [])) (matching (conforms M) (g .stack) (a .types))
+              (conforms-from M v (M .result n ∷ []) d (λ h z. rw (List·Memᴰ·eq-of-singleton z) u))
+              (a .conforming))
+              (rw same at e),
+          b,
+        ) in
+        rw (resend-enters M g gs n r held) (
+          entered,
+          each-none (SoundSend M),
+          each-one (SoundResend M) (record { target = n; byRun = r; byRule = r; concrete = a .concrete; specialisersHold = applying; declaredHolds = held }),
+        )
 
-    sound-kept : Invariant M (SoundFrame M f₀ args₀) (SoundEnding M f₀ args₀) (SoundSend M)
+    sound-kept : Invariant M (SoundFrame M f₀ args₀) (SoundEnding M f₀ args₀) (SoundSend M) (SoundResend M)
     unfolding settle
     sound-kept = record { settling = λ g gs r. settled-sound (g .rest) (g .stack) g gs (r .0) (r .1); turning = turn-sound }
 
@@ -301,8 +356,8 @@ module _ (M : Model) (w : Wellformed M) (ok : Acceptable M) where
       → SoundRun M f args (run M f args count)
   run-sound f args s v c count =
       let (x, t) = call-sound f args f args [] s v c (λ m l r k. judged-by f args m r c l k .1 .resultUnder) in
-      let (p, q, n) = run-keeps (SoundFrame M f args) (SoundEnding M f args) (SoundSend M) (sound-kept f args) f args t x count in
-      record { sends = p; ending = ends-so (SoundEnding M f args) _ tt q }
+      let (p, r, q, n) = run-keeps (SoundFrame M f args) (SoundEnding M f args) (sound-kept f args) f args t x count in
+      record { sends = p; resends = r; ending = ends-so (SoundEnding M f args) _ tt q }
 
 -- soundness of the whole run (M 9.1)
 pub demand-3 : Demand3

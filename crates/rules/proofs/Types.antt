@@ -3,18 +3,20 @@
 -- Assumes nothing.
 use Prim.Native.Nat.{ℕ, suc, _<_, _≤_}
 use native.Mathlib.Omega.{arith}
-use mathlib.Core.Path.{_≡_, refl, subst}
+use mathlib.Core.Path.{_≡_, refl, ap, subst, _∙_}
 use mathlib.Core.Bool.{Bool, true, false, cond, _&&_, _||_}
 use mathlib.Core.Logic.{_↔_}
 use mathlib.Core.List.{List, [], _∷_, List·Memᴰ, List·Memᴰ·head, Memᴰ·map, Memᴰ·of-map}
 use lib.Dec.{eqb, leb}
-use lib.ListN.{length}
+use lib.ListN.{length, getD, length-map, List·getD-map}
 use borrow.Author.Tests.{eqb-true, eq-eqb}
 use Rattle.rules.specs.Bounded.{upto, any}
-use Rattle.rules.specs.Model.{Model, Instr, arg, new, send}
+use Rattle.rules.specs.Model.{Model, Instr, arg, new, send, resend}
 use Rattle.rules.specs.Subclass.{subclass}
-use Rattle.rules.specs.Types.{Static, inType, licenses, licensing, sendType, Typing, typed, breaks, Effect, leaves, breaksBy, sendEffect, effect, ending, afterEffect, typeFrom, typeBody}
-use Rattle.rules.proofs.Lists.{and-left, and-right, and-both, any-mem, any-from, keep-mem, keep-in, upto-below, below-upto}
+use Rattle.rules.specs.Lookup.{Found, found, missing, ambiguous}
+use Rattle.rules.specs.Resend.{resendTarget}
+use Rattle.rules.specs.Types.{Static, inType, licenses, licensing, sendType, argType, argTypes, Typing, typed, breaks, Effect, leaves, breaksBy, sendEffect, suits, resendEffect, effect, ending, afterEffect, typeFrom, typeBody}
+use Rattle.rules.proofs.Lists.{and-left, and-right, and-both, any-mem, any-from, keep-mem, keep-in, upto-below, below-upto, length-upto, getD-upto}
 
 -- signature s licenses a send of f with arguments of these types
 pub record Licence (M : Model) (f : ℕ) (types : List Static) (s : ℕ) : Type 0 where
@@ -88,6 +90,15 @@ send-type-greatest M f types t h =
           h s l .has b (any-from (λ g. subclass M g b) (M .sigResult s ∷ []) (List·Memᴰ·head refl) u);
     }
 
+-- what is known of each argument, place by place
+pub arg-types-length : (M : Model) (m : ℕ) → length (argTypes M m) ≡ M .arity (M .function m)
+unfolding argTypes
+arg-types-length M m = length-map (upto (M .arity (M .function m))) (argType M m) ∙ length-upto (M .arity (M .function m))
+
+pub arg-type-at : (M : Model) (m i : ℕ) → i < M .arity (M .function m) → getD (argTypes M m) i (argType M m 0) ≡ argType M m i
+unfolding argTypes
+arg-type-at M m i h = List·getD-map (argType M m) (upto (M .arity (M .function m))) i 0 ∙ ap (argType M m) (getD-upto (M .arity (M .function m)) i 0 h)
+
 -- The numbers by which a body breaks.
 abbrev Bodily : Typing → Type 0
 Bodily typed = Unit {0}
@@ -107,11 +118,18 @@ module _ (M : Model) where
   cond-bodily true p q h k = h
   cond-bodily false p q h k = k
 
+  resend-bodily : (m : ℕ) (stack : List Static) (r : Found) → BodilyEffect (resendEffect M m stack r)
+  unfolding resendEffect
+  resend-bodily m stack missing = omega arith
+  resend-bodily m stack (ambiguous a b) = omega arith
+  resend-bodily m stack (found n) = cond-bodily (suits M m n) _ _ tt (omega arith)
+
   effect-bodily : (m : ℕ) (stack : List Static) (i : Instr) → BodilyEffect (effect M m stack i)
   unfolding effect
   effect-bodily m stack (arg k) = tt
   effect-bodily m stack (new c) = cond-bodily (M .concrete c) _ _ tt (omega arith)
   effect-bodily m stack (send f) = cond-bodily (leb (M .arity f) (length stack)) _ _ (send-bodily _ _) (omega arith)
+  effect-bodily m stack resend = resend-bodily m stack (resendTarget M m)
 
   ending-bodily : (m at : ℕ) (stack : List Static) → Bodily (ending M m at stack)
   unfolding ending

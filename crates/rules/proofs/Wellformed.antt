@@ -111,7 +111,8 @@ unfolding instructionRule operandRule decode
 operand-holds M n zero y e = e
 operand-holds M n (suc zero) y e = e
 operand-holds M n (suc (suc zero)) y e = e
-operand-holds M n (suc (suc (suc x))) y e = absurd (false≢true e)
+operand-holds M n (suc (suc (suc zero))) y e = refl
+operand-holds M n (suc (suc (suc (suc x)))) y e = absurd (false≢true e)
 
 operands-hold : (M : Model) (n : ℕ) (bytes : List ℕ) → everyPair (instructionRule n (M .classes) (M .functions)) bytes ≡ true
     → every (operandRule M n) (instructions bytes) ≡ true

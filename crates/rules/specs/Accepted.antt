@@ -43,8 +43,9 @@ pub record CoveredOpening (M : Model) (f : ℕ) (tuple : List ℕ) : Type 0 wher
   pub covering : Covering M f (used M f tuple) signature
 
 -- The run is sound from its opening send to its end: every send that it meets is covered, is judged to hold at every signature that covers it, and finds
--- one method by the checker's judgement, by the run and by lookup, whose declared classes hold the arguments; it ends Spent, Deep, or with a concrete
--- class under the result class of every signature that covers the opening send. The answer is how this run ended, with its steps.
+-- one method by the checker's judgement, by the run and by lookup, whose declared classes hold the arguments; for every resend there is one method to go to,
+-- and each argument is under its specialiser and its declared class; it ends Spent, Deep, or with a concrete class under the result class of every signature
+-- that covers the opening send. The answer is how this run ended, with its steps.
 pub record SoundAnswer (M : Model) (f : ℕ) (tuple : List ℕ) (count : ℕ) (r : Answer Outcome) : Type 0 where
   pub whole : SoundRun M f (used M f tuple) (run M f (used M f tuple) count)
   pub answer : r ≡ gives ((run M f (used M f tuple) count) .outcome)

@@ -12,14 +12,14 @@ use Rattle.rules.specs.Layout.{Answer, gives, refuses}
 use Rattle.rules.specs.Model.{modelOf}
 use Rattle.rules.specs.Subclass.{Ancestry, same, heir, neither}
 use Rattle.rules.specs.Types.{Static}
-use Rattle.rules.specs.Machine.{Ending, value, spent, deep, stopped}
+use Rattle.rules.specs.Machine.{Ending, value, spent, deep, stopped, run}
 use Rattle.rules.specs.Calls.{rowBytes, openingCall, ancestryCall, lookupCall, sendTypeCall, checkCall, witnessCall, bodyViewCall, bodyViewStart, runCall, rowAfter, Match}
 use Rattle.rules.specs.Scratch.{scratchBytes, matrixByte}
 use Rattle.rules.specs.Bits.{bit}
 use Rattle.rules.specs.Ascii.{ascii}
 use Rattle.rules.specs.Chart.{chartCall, bufferAfter}
 use Rattle.rules.specs.Rough.{Rough, one, mayFail, several, roughCall}
-use Rattle.rules.specs.Samples.{chart3, chart4, chart5, loop, oneClass, abstractArgument, narrowDeclared, wideResult, twoValues, abstractNew, noLicence, looseResult, twentyThreeBytes, directoryGap, emptySections, ownParent, fourArguments, absentResult, emptyBody, twinMethods, unknownOperation, noMethod, threeFaults, threeRivals, severalBroken, upperClasses, exactMatch}
+use Rattle.rules.specs.Samples.{chart3, chart4, chart5, loop, oneClass, abstractArgument, narrowDeclared, wideResult, twoValues, abstractNew, noLicence, looseResult, twentyThreeBytes, directoryGap, emptySections, ownParent, fourArguments, absentResult, emptyBody, twinMethods, unknownOperation, noMethod, threeFaults, threeRivals, severalBroken, upperClasses, exactMatch, resend, resendLoop, resendOperand, noOverridden, ambiguousResend, narrowTarget}
 
 -- A call on a bundle, with what it comes to. Scratch, row and buffer are large enough, but for `checksIn`, `typesIn` and `chartsIn`, which give their length.
 pub data Case : Type 0 where
@@ -34,6 +34,7 @@ pub data Case : Type 0 where
   types : List ℕ → ℕ → List ℕ → List ℕ → Case
   typesIn : List ℕ → ℕ → ℕ → List ℕ → Answer Static → Case
   runs : List ℕ → ℕ → List ℕ → ℕ → Ending → ℕ → Case
+  comesTo : List ℕ → ℕ → List ℕ → ℕ → List ℕ → Case
   charts : List ℕ → ℕ → ℕ → String → Case
   chartsIn : List ℕ → ℕ → ℕ → ℕ → Answer (List ℕ) → Case
   roughly : List ℕ → ℕ → List ℕ → Answer Rough → Case
@@ -47,8 +48,9 @@ unfoldable pub matrixOf : List ℕ → List ℕ
 matrixOf [] = []
 matrixOf (x ∷ xs) = x ∷ replicate 15 0 ++ matrixOf xs
 
--- A send type is compared by its whole row, and a line of a chart by its whole buffer, of which two bytes more are lent than it takes; all are 9 before the call. The matrix is
--- compared by the rows of all classes, and by that of the first number that is none.
+-- The resends that a run comes to are compared by the methods that resend. A send type is compared by its whole row, and a line of a chart by its whole buffer, of
+-- which two bytes more are lent than it takes; all are 9 before the call. The matrix is compared by the rows of all classes, and by that of the first number that
+-- is none.
 abbrev pub Stands : Case → Type 0
 Stands (opens b answer) = openingCall b ≡ answer
 Stands (views b m code start) = (bodyViewCall b m ≡ gives code) × (bodyViewStart b m ≡ start)
@@ -62,6 +64,7 @@ Stands (types b f tuple classes) =
     rowAfter b scratchBytes (replicate (rowBytes + 2) 9) f tuple ≡ rowOf classes ++ 9 ∷ 9 ∷ []
 Stands (typesIn b n f tuple answer) = sendTypeCall b scratchBytes n f tuple ≡ answer
 Stands (runs b f tuple count e steps) = runCall b scratchBytes f tuple count ≡ gives (record { ending = e; steps = steps })
+Stands (comesTo b f args count methods) = map (λ x. x .method) ((run (modelOf b) f args count) .resends) ≡ methods
 Stands (charts b f k line) = bufferAfter b scratchBytes (replicate (length (ascii line) + 2) 9) f k ≡ ascii line ++ 9 ∷ 9 ∷ []
 Stands (chartsIn b n f k answer) = chartCall b scratchBytes n f k ≡ answer
 Stands (roughly b f tuple answer) = roughCall b scratchBytes f tuple ≡ answer
@@ -123,6 +126,7 @@ worked =
     ∷ opens emptyBody (refuses 7 (0 ∷ []))
     ∷ opens twinMethods (refuses 8 (1 ∷ []))
     ∷ opens unknownOperation (refuses 9 (0 ∷ []))
+    ∷ opens resendOperand (refuses 9 (1 ∷ []))
     ∷ checks noMethod (refuses 10 (0 ∷ 0 ∷ 0 ∷ 0 ∷ 0 ∷ []))
     ∷ checks threeFaults (refuses 10 (0 ∷ 0 ∷ 0 ∷ 0 ∷ 0 ∷ []))
     ∷ finds noMethod 0 (0 ∷ 0 ∷ 0 ∷ []) (refuses 10 (0 ∷ 0 ∷ 0 ∷ 0 ∷ []))
@@ -136,10 +140,26 @@ worked =
     ∷ checks abstractNew (refuses 15 (0 ∷ 0 ∷ []))
     ∷ checks noLicence (refuses 16 (0 ∷ 1 ∷ []))
     ∷ checks looseResult (refuses 17 (0 ∷ 1 ∷ []))
+    ∷ checks noOverridden (refuses 25 (0 ∷ 0 ∷ []))
+    ∷ checks ambiguousResend (refuses 26 (2 ∷ 0 ∷ []))
+    ∷ checks narrowTarget (refuses 27 (1 ∷ 0 ∷ []))
+    ∷ checks resend (gives tt)
+    ∷ checks resendLoop (gives tt)
     ∷ runs threeRivals 0 (5 ∷ 0 ∷ 0 ∷ []) 9 (stopped 11 (0 ∷ 5 ∷ 0 ∷ 0 ∷ 3 ∷ 1 ∷ [])) 0
     ∷ runs narrowDeclared 0 (0 ∷ 0 ∷ 0 ∷ []) 9 (stopped 12 (0 ∷ 0 ∷ 0 ∷ 0 ∷ 0 ∷ [])) 0
     ∷ runs twoValues 0 (0 ∷ 0 ∷ 0 ∷ []) 9 (stopped 14 (0 ∷ 2 ∷ [])) 2
     ∷ runs abstractNew 0 (0 ∷ 0 ∷ 0 ∷ []) 9 (stopped 15 (0 ∷ 0 ∷ [])) 0
+    ∷ runs noOverridden 0 (1 ∷ 0 ∷ 0 ∷ []) 9 (stopped 25 (0 ∷ 0 ∷ [])) 1
+    ∷ runs ambiguousResend 0 (2 ∷ 4 ∷ 0 ∷ []) 9 (stopped 26 (2 ∷ 0 ∷ [])) 0
+    ∷ runs narrowTarget 0 (2 ∷ 0 ∷ 0 ∷ []) 9 (stopped 27 (1 ∷ 0 ∷ [])) 0
+    ∷ runs resend 0 (2 ∷ 3 ∷ 0 ∷ []) 9 (value 6) 4
+    ∷ runs resend 0 (2 ∷ 4 ∷ 0 ∷ []) 9 (value 6) 7
+    ∷ runs resend 0 (2 ∷ 4 ∷ 0 ∷ []) 1 spent 1
+    ∷ comesTo resend 0 (2 ∷ 4 ∷ []) 0 (1 ∷ [])
+    ∷ comesTo resend 0 (2 ∷ 4 ∷ []) 1 (1 ∷ 0 ∷ [])
+    ∷ comesTo resend 0 (2 ∷ 4 ∷ []) 9 (1 ∷ 0 ∷ [])
+    ∷ runs resendLoop 0 (0 ∷ 0 ∷ 0 ∷ []) 47 spent 47
+    ∷ runs resendLoop 0 (0 ∷ 0 ∷ 0 ∷ []) 48 deep 47
     ∷ typesIn noLicence rowBytes 1 (0 ∷ 0 ∷ 0 ∷ []) (refuses 16 [])
     ∷ finds chart3 1 (1 ∷ 3 ∷ 0 ∷ []) (refuses 18 [])
     ∷ finds chart3 0 (1 ∷ 3 ∷ 1 ∷ []) (refuses 18 [])

@@ -249,12 +249,13 @@ twins b m n = eqb (functionOf b m) (functionOf b n) && matching eqb (specialiser
 unfoldable pub twinRule : List ℕ → ℕ → Bool
 twinRule b m = not (any (λ n. twins b m n) (upto m))
 
--- An operation, and an operand that names something there (M 2.8). The numbers are what there is of each.
+-- An operation, and an operand that names something there; that of RESEND is 0 (M 2.8). The numbers are what there is of each.
 unfoldable pub instructionRule : ℕ → ℕ → ℕ → ℕ → ℕ → Bool
 instructionRule arguments classes functions zero operand = ltb operand arguments
 instructionRule arguments classes functions (suc zero) operand = ltb operand classes
 instructionRule arguments classes functions (suc (suc zero)) operand = ltb operand functions
-instructionRule arguments classes functions (suc (suc (suc n))) operand = false
+instructionRule arguments classes functions (suc (suc (suc zero))) operand = eqb operand 0
+instructionRule arguments classes functions (suc (suc (suc (suc n)))) operand = false
 
 -- a test on each instruction of a body: its two bytes
 unfoldable pub everyPair : (ℕ → ℕ → Bool) → List ℕ → Bool

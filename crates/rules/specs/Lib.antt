@@ -6,6 +6,7 @@ pub mod Running
 pub mod Model
 pub mod Subclass
 pub mod Lookup
+pub mod Resend
 pub mod Types
 pub mod Coverage
 pub mod First

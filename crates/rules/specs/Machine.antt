@@ -1,4 +1,4 @@
--- The stepper (M 8): frames, one instruction with the ends of bodies that follow it, the run and the sends that it meets.
+-- The stepper (M 8): frames, one instruction with the ends of bodies that follow it, the run, the sends that it meets and the resends that it comes to.
 -- Assumes nothing.
 use Prim.Native.Nat.{ℕ, zero, suc, _+_}
 use mathlib.Core.Bool.{cond}
@@ -7,8 +7,9 @@ use lib.Dec.{leb, ltb}
 use lib.ListN.{length, getD, drop}
 use Rattle.rules.specs.Numbers as numbers
 use Rattle.rules.specs.Layout.{padded}
-use Rattle.rules.specs.Model.{Model, Instr, arg, new, send}
+use Rattle.rules.specs.Model.{Model, Instr, arg, new, send, resend}
 use Rattle.rules.specs.Lookup.{Found, found, missing, ambiguous, lookup}
+use Rattle.rules.specs.Resend.{resendTarget}
 use Rattle.rules.specs.Types.{arguments}
 use Rattle.rules.specs.Coverage.{declaredHold}
 
@@ -114,6 +115,13 @@ call M f args callers = callTarget M f args callers (target M f args)
 unfoldable pub after : Frame → List ℕ → Frame
 after g stack = record { method = g .method; args = g .args; at = suc (g .at); rest = g .rest; stack = stack }
 
+-- A resend with this target hands the frame's arguments to it: 25, 26, 27 where its declared classes do not hold them, then Deep (M 15.4).
+unfoldable pub resendTo : Model → Frame → List Frame → Found → Turn
+resendTo M g callers missing = failed (stoppedAt numbers.noOverridden g)
+resendTo M g callers (ambiguous m n) = failed (stoppedAt numbers.ambiguousResend g)
+resendTo M g callers (found n) =
+    cond (declaredHold M n (g .args)) (enter M n (g .args) (after g (g .stack) ∷ callers)) (failed (stoppedAt numbers.narrowTarget g))
+
 -- One instruction in the top frame (M 8.3). NEW of an abstract class is 15, a SEND with too few values 14.
 unfoldable pub turn : Model → Instr → Frame → List Frame → Turn
 turn M (arg i) g callers = made (after g (getD (g .args) i 0 ∷ g .stack)) callers
@@ -122,6 +130,7 @@ turn M (send f) g callers =
     cond (leb (M .arity f) (length (g .stack)))
     (call M f (arguments (M .arity f) (g .stack)) (after g (drop (M .arity f) (g .stack)) ∷ callers))
     (failed (stoppedAt numbers.badStack g))
+turn M resend g callers = resendTo M g callers (resendTarget M (g .method))
 
 -- A send that a run meets, with what the run finds for it.
 pub record Send : Type 0 where
@@ -137,6 +146,20 @@ unfoldable pub sent : Model → Instr → Frame → List Send
 sent M (arg i) g = []
 sent M (new c) g = []
 sent M (send f) g = cond (leb (M .arity f) (length (g .stack))) (meeting M f (arguments (M .arity f) (g .stack)) ∷ []) []
+sent M resend g = []
+
+-- A resend that a run comes to: the method whose frame it is, the arguments there, and the target.
+pub record Resend : Type 0 where
+  pub method : ℕ
+  pub args : List ℕ
+  pub target : Found
+
+-- the resend that a run comes to at an instruction (M 15.5)
+unfoldable pub resent : Model → Instr → Frame → List Resend
+resent M (arg i) g = []
+resent M (new c) g = []
+resent M (send f) g = []
+resent M resend g = record { method = g .method; args = g .args; target = resendTarget M (g .method) } ∷ []
 
 -- A run on its way: what it goes on with or how it ended, and the steps that it made.
 pub record Progress : Type 0 where
@@ -173,32 +196,39 @@ unfoldable pub sentNext : Model → Resumption → List Send
 sentNext M (goes i g callers) = sent M i g
 sentNext M (ends e) = []
 
+-- the resend that stands before it, whether or not there is a pace left
+unfoldable pub resentNext : Model → Resumption → List Resend
+resentNext M (goes i g callers) = resent M i g
+resentNext M (ends e) = []
+
 -- how a run ends, and the steps it made (M 8.6)
 pub record Outcome : Type 0 where
   pub ending : Ending
   pub steps : ℕ
 
--- A run: how it ends, and the sends that it met, in their order.
+-- A run: how it ends, the sends that it met and the resends that it came to, in their order.
 pub record Run : Type 0 where
   pub outcome : Outcome
   pub met : List Send
+  pub resends : List Resend
 
 -- a run that makes no more paces is Spent, unless it has ended (M 8.5)
 unfoldable pub endingNow : Resumption → Ending
 endingNow (goes i g callers) = spent
 endingNow (ends e) = e
 
-unfoldable pub finished : Progress → Run
-finished p = record { outcome = record { ending = endingNow (p .next); steps = p .steps }; met = [] }
+unfoldable pub finished : Model → Progress → Run
+finished M p = record { outcome = record { ending = endingNow (p .next); steps = p .steps }; met = []; resends = resentNext M (p .next) }
 
-unfoldable pub meets : List Send → Run → Run
-meets sends r = record { outcome = r .outcome; met = sends ++ r .met }
+-- a run that met these sends and came to these resends before
+unfoldable pub meets : List Send → List Resend → Run → Run
+meets sends resends r = record { outcome = r .outcome; met = sends ++ r .met; resends = resends ++ r .resends }
 
 -- the run from some progress on, with so many paces left
 unfoldable pub runFrom : Model → ℕ → Progress → Run
-runFrom M zero p = finished p
-runFrom M (suc left) p = meets (sentNext M (p .next)) (runFrom M left (pace M p))
+runFrom M zero p = finished M p
+runFrom M (suc left) p = meets (sentNext M (p .next)) (resentNext M (p .next)) (runFrom M left (pace M p))
 
 -- the run of a send: its start, and as many paces as the count says
 unfoldable pub run : Model → ℕ → List ℕ → ℕ → Run
-run M f args count = meets (meeting M f args ∷ []) (runFrom M count (start M f args))
+run M f args count = meets (meeting M f args ∷ []) [] (runFrom M count (start M f args))

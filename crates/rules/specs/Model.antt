@@ -9,11 +9,12 @@ use lib.ListN.{length, take}
 use Rattle.rules.specs.Bounded.{every}
 use Rattle.rules.specs.Layout.{classCount, functionCount, signatureCount, methodCount, kindOf, parentsOf, arityOf, sigFunctionOf, sigTupleOf, sigResultOf, functionOf, specialiserTupleOf, declaredTupleOf, resultOf, codeOf, maxClasses, maxFunctions, maxSignatures, maxMethods, places}
 
--- the three instructions, with an argument place, a class and a function (M 2.8)
+-- the four instructions, with an argument place, a class and a function; a resend has nothing beside it (M 2.8)
 pub data Instr : Type 0 where
   arg : ℕ → Instr
   new : ℕ → Instr
   send : ℕ → Instr
+  resend : Instr
 
 -- Classes, functions, signatures and methods are numbers from 0. A list by places is as long as the function has arguments.
 pub record Model : Type 0 where
@@ -33,12 +34,14 @@ pub record Model : Type 0 where
   pub result : ℕ → ℕ
   pub body : ℕ → List Instr
 
--- Number 9 refuses every other operation, and so is what stands for it here: ARG of a place that no method has.
+-- Number 9 refuses every other operation, and what stands for it here: ARG of a place that no method has. It refuses a RESEND whose operand is not 0, so the
+-- operand says nothing.
 unfoldable pub decode : ℕ → ℕ → Instr
 decode zero operand = arg operand
 decode (suc zero) operand = new operand
 decode (suc (suc zero)) operand = send operand
-decode (suc (suc (suc n))) operand = arg places
+decode (suc (suc (suc zero))) operand = resend
+decode (suc (suc (suc (suc n)))) operand = arg places
 
 unfoldable pub instructions : List ℕ → List Instr
 instructions [] = []
@@ -74,6 +77,7 @@ unfoldable pub operandRule : Model → ℕ → Instr → Bool
 operandRule M n (arg i) = ltb i n
 operandRule M n (new c) = ltb c (M .classes)
 operandRule M n (send f) = ltb f (M .functions)
+operandRule M n resend = true
 
 -- What opening gives, as facts about the model.
 pub record Wellformed (M : Model) : Type 0 where

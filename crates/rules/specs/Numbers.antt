@@ -77,3 +77,13 @@ shortLine = 23
 
 abbrev pub noConcrete : ℕ
 noConcrete = 24
+
+-- a resend fails
+abbrev pub noOverridden : ℕ
+noOverridden = 25
+
+abbrev pub ambiguousResend : ℕ
+ambiguousResend = 26
+
+abbrev pub narrowTarget : ℕ
+narrowTarget = 27

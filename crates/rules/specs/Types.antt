@@ -7,8 +7,10 @@ use lib.Dec.{eqb, leb}
 use lib.ListN.{length, getD, take, drop}
 use Rattle.rules.specs.Numbers as numbers
 use Rattle.rules.specs.Bounded.{upto, any, keep, matching}
-use Rattle.rules.specs.Model.{Model, Instr, arg, new, send}
+use Rattle.rules.specs.Model.{Model, Instr, arg, new, send, resend}
 use Rattle.rules.specs.Subclass.{subclass}
+use Rattle.rules.specs.Lookup.{Found, found, missing, ambiguous}
+use Rattle.rules.specs.Resend.{resendTarget}
 
 -- A static type is given by classes whose types it joins; the type of a class has every class above it, and itself (M 7.1).
 abbrev pub Static : Type 0
@@ -51,6 +53,20 @@ unfoldable pub sendEffect : Static → List Static → Effect
 sendEffect [] below = breaksBy numbers.noLicence
 sendEffect (c ∷ cs) below = leaves ((c ∷ cs) ∷ below)
 
+-- what is known of each argument of m
+unfoldable pub argTypes : Model → ℕ → List Static
+argTypes M m = map (argType M m) (upto (M .arity (M .function m)))
+
+-- the arguments of m suit method n: each declared class of n is in the type at its place (M 15.3)
+unfoldable pub suits : Model → ℕ → ℕ → Bool
+suits M m n = matching (inType M) (argTypes M m) (M .declared n)
+
+-- A resend in m with this target: it breaks by 25, 26 or 27, or leaves the type of the target's result class on the stack (M 15.3).
+unfoldable pub resendEffect : Model → ℕ → List Static → Found → Effect
+resendEffect M m stack missing = breaksBy numbers.noOverridden
+resendEffect M m stack (ambiguous a b) = breaksBy numbers.ambiguousResend
+resendEffect M m stack (found n) = cond (suits M m n) (leaves ((M .result n ∷ []) ∷ stack)) (breaksBy numbers.narrowTarget)
+
 -- what an instruction does to the stack of types, or the number by which the body breaks there (M 7.2)
 unfoldable pub effect : Model → ℕ → List Static → Instr → Effect
 effect M m stack (arg i) = leaves (argType M m i ∷ stack)
@@ -59,6 +75,7 @@ effect M m stack (send f) =
     cond (leb (M .arity f) (length stack))
     (sendEffect (sendType M f (arguments (M .arity f) stack)) (drop (M .arity f) stack))
     (breaksBy numbers.badStack)
+effect M m stack resend = resendEffect M m stack (resendTarget M m)
 
 -- the end of a body: one type is left, and the result class is in it (M 7.2)
 unfoldable pub ending : Model → ℕ → ℕ → List Static → Typing

@@ -10,10 +10,15 @@ use lib.ListN.{length, getD, take, drop, take-append-drop, length-drop, length-r
 use lib.Dec.{leb}
 use lib.Seq.{length-take-le, drop-cons}
 use borrow.Author.Tests.{le-leb, lt-leb}
-use Rattle.rules.specs.Model.{Model, Instr, arg, new, send}
-use Rattle.rules.specs.Types.{Static, typed, breaks, Effect, leaves, breaksBy, arguments, argType, sendType, sendEffect, effect, afterEffect, inType, ending, typeFrom, typeBody}
+use Rattle.rules.specs.Model.{Model, Instr, arg, new, send, resend}
+use Rattle.rules.specs.Lookup.{Found, found, missing, ambiguous}
+use Rattle.rules.specs.Resend.{resendTarget}
+use Rattle.rules.specs.Types.{Static, typed, breaks, Effect, leaves, breaksBy, arguments, argType, sendType, sendEffect, suits, resendEffect, effect, afterEffect, inType, ending, typeFrom, typeBody}
 use Rattle.rules.specs.Calls.{rowBytes, overwrite}
 use Rattle.rules.specs.Bits.{bit}
+use Rattle.answers.specs.Failures.{notFound, resendNumber}
+use Rattle.answers.specs.declared.failure.NotFound.{NotFound}
+use Rattle.answers.specs.declared.failure.NotFound.the-variants.{Missing, Ambiguous}
 use Rattle.typing.specs.Rows.{typeByte, Rows}
 use Rattle.typing.specs.Sends.{inhabited, Sent}
 use Rattle.typing.specs.Bodies.{typingOf, Stack, Agrees, Applied, Ended}
@@ -122,6 +127,22 @@ module _ (M : Model) (m : ℕ) (rows : List ℕ) (h : ℕ) where
               (stack-push M rows (h - n) (drop n stack) t (stack-below M rows h n stack s l) (omega arith)));
         }
 
+  -- a resend without a target; with one, the target and what it declares decide
+  pub applied-untargeted : (x : NotFound) → notFound x ≡ resendTarget M m → Applied M m resend rows h rows (BreaksBy (resendNumber x))
+  unfolding Agrees effect resendEffect
+  applied-untargeted Missing e = record { agrees = λ stack s. rw (← e) refl }
+  applied-untargeted (Ambiguous a b) e = record { agrees = λ stack s. rw (← e) refl }
+
+  module _ (n : ℕ) (e : resendTarget M m ≡ found n) where
+    pub applied-narrow : suits M m n ≡ false → Applied M m resend rows h rows (BreaksBy 27)
+    unfolding Agrees effect resendEffect
+    applied-narrow q = record { agrees = λ stack s. rw (e, q) refl }
+
+    pub applied-target : rowBytes * h + rowBytes ≤ length rows → suits M m n ≡ true
+        → Applied M m resend rows h (stacked M (M .result n ∷ []) h rows) (Leaves (h + 1))
+    unfolding Agrees effect resendEffect
+    applied-target room q = record { agrees = λ stack s. rw (e, q) (stack-push M rows h stack (M .result n ∷ []) s room) }
+
 -- the end of a body (M 7.2): one type on the stack, with the result class in it
 module _ (M : Model) (m at : ℕ) (rows : List ℕ) where
   pub ended-other : (h : ℕ) → (h ≡ 1 → ⊥) → Ended M m at rows h (Breaks 14 at)
@@ -172,6 +193,16 @@ unfolding sendEffect
 send-height [] below next e = absurd (false≢true (cc))
 send-height (c ∷ t) below next e = let same : (c ∷ t) ∷ below ≡ next = cc in rw (sym same) (omega arith)
 
+resend-height : (M : Model) (m : ℕ) (stack next : List Static) (r : Found) → resendEffect M m stack r ≡ leaves next → length next ≤ suc (length stack)
+unfolding resendEffect
+resend-height M m stack next missing e = absurd (false≢true (cc))
+resend-height M m stack next (ambiguous a b) e = absurd (false≢true (cc))
+resend-height M m stack next (found n) e = by (suits M m n) e
+  where
+    by : (t : Bool) → cond t (leaves ((M .result n ∷ []) ∷ stack)) (breaksBy 27) ≡ leaves next → length next ≤ suc (length stack)
+    by true q = let same : (M .result n ∷ []) ∷ stack ≡ next = cc in rw (sym same) (omega arith)
+    by false q = absurd (false≢true (cc))
+
 effect-height : (M : Model) (m : ℕ) (stack next : List Static) (i : Instr) → effect M m stack i ≡ leaves next → length next ≤ suc (length stack)
 unfolding effect
 effect-height M m stack next (arg i) e = let same : argType M m i ∷ stack ≡ next = cc in rw (sym same) (omega arith)
@@ -188,6 +219,7 @@ effect-height M m stack next (send f) e = by (leb (M .arity f) (length stack)) e
     by : (p : Bool) → cond p (sendEffect t (drop (M .arity f) stack)) (breaksBy 14) ≡ leaves next → length next ≤ suc (length stack)
     by true q = let less = send-height t (drop (M .arity f) stack) next q in omega (arith, less, length-drop (M .arity f) stack)
     by false q = absurd (false≢true (cc))
+effect-height M m stack next resend e = resend-height M m stack next (resendTarget M m) e
 
 -- the check has come to an instruction, with the stack that the rows hold
 pub record Reached (M : Model) (m : ℕ) (rows : List ℕ) (h at : ℕ) : Type 0 where

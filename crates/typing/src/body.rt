@@ -1,4 +1,5 @@
 // The check of a body: its instructions one after the other, over a stack of types in rows, the lowest type in row 0.
+use crate::resend::apply_resend;
 use crate::row::ROW_BYTES;
 use crate::row::class_row;
 use crate::row::copy;
@@ -29,6 +30,7 @@ ghost use Rattle.rules.specs.Calls.{rowBytes, overwrite};
 ghost use Rattle.layout.specs.Instruction.{instr};
 ghost use Rattle.layout.specs.Opened.{Opened};
 ghost use Rattle.subclasses.specs.Prepared.{Prepared};
+ghost use Rattle.dispatch.specs.Index.{Indexed};
 ghost use Rattle.typing.specs.Rows.{typeByte};
 ghost use Rattle.typing.specs.Bodies.{typingOf, Applied, AppliedSend, Ended};
 
@@ -39,7 +41,7 @@ pub enum Typing {
 }
 
 // What an instruction does: it leaves so many types, or breaks by a number.
-enum Effect {
+pub(crate) enum Effect {
     Leaves(usize),
     BreaksBy(u8),
 }
@@ -90,12 +92,14 @@ fn apply(
     bytes: &[u8],
     b: Bundle,
     scratch: &[u8],
+    index: &[usize],
     m: usize,
     i: Instruction,
     rows: &mut [u8],
     h: usize,
 ) -> Effect
     requires { ⌜ Prepared (now bytes) b (now scratch) ⌝ }
+    requires { ⌜ Indexed (modelOf (now bytes)) (now index) ⌝ }
     requires { ⌜ m < b .methods ⌝ }
     requires { ⌜ (let M = modelOf (now bytes) in operandRule M (M .arity (M .function m)) (instr i) ≡ true) ⌝ }
     requires { ⌜ rowBytes * h + rowBytes ≤ length (now rows) ⌝ }
@@ -117,6 +121,9 @@ fn apply(
         }
         Instruction::Send(f) => {
             return apply_send(bytes, b, scratch, f, rows, h);
+        }
+        Instruction::Resend => {
+            return apply_resend(bytes, b, scratch, index, m, rows, h);
         }
     }
 }
@@ -146,8 +153,15 @@ fn body_rows() -> [u8; 8192]
 }
 
 // The check of method m's body, by a pass over its instructions.
-pub(crate) fn type_body(bytes: &[u8], b: Bundle, scratch: &[u8], m: usize) -> Typing
+pub(crate) fn type_body(
+    bytes: &[u8],
+    b: Bundle,
+    scratch: &[u8],
+    index: &[usize],
+    m: usize,
+) -> Typing
     requires { ⌜ Prepared (now bytes) b (now scratch) ⌝ }
+    requires { ⌜ Indexed (modelOf (now bytes)) (now index) ⌝ }
     requires { ⌜ m < b .methods ⌝ }
     ensures { λ r. ⌜ typingOf r ≡ typeBody (modelOf (now (bytes .entry))) m ⌝ }
 {
@@ -157,7 +171,7 @@ pub(crate) fn type_body(bytes: &[u8], b: Bundle, scratch: &[u8], m: usize) -> Ty
     let mut at = 0;
     while at < n {
         let i = instruction(bytes, b, m, at);
-        let done = apply(bytes, b, scratch, m, i, &mut rows, h);
+        let done = apply(bytes, b, scratch, index, m, i, &mut rows, h);
         match done {
             Effect::BreaksBy(number) => {
                 return Typing::Breaks(number, at);

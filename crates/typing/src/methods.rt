@@ -4,6 +4,7 @@ use crate::body::type_body;
 use answers::finding::BodyFinding;
 use answers::finding::Finding;
 use answers::finding::Verdict;
+use dispatch::index::index_methods;
 use layout::bundle::Bundle;
 ghost use mathlib.Core.Path.{_≡_};
 ghost use Rattle.rules.specs.Model.{modelOf};
@@ -16,10 +17,11 @@ pub fn type_bodies(bytes: &[u8], b: Bundle, scratch: &[u8]) -> Verdict
     requires { ⌜ Prepared (now bytes) b (now scratch) ⌝ }
     ensures { λ r. ⌜ verdictSaid r ≡ bodyVerdict (modelOf (now (bytes .entry))) (brokenMethod (modelOf (now (bytes .entry)))) ⌝ }
 {
+    let index = index_methods(bytes, b);
     let methods = b.methods;
     let mut m = 0;
     while m < methods {
-        let typing = type_body(bytes, b, scratch, m);
+        let typing = type_body(bytes, b, scratch, &index, m);
         if let Typing::Breaks(number, instruction) = typing {
             let found = BodyFinding {
                 number,

@@ -1,6 +1,6 @@
 //! The bundles that are measured.
 
-use builder::{bucket, tree, widest_chart, Parts, Random, ARG, NEW, SEND};
+use builder::{bucket, tree, widest_chart, Parts, Random, ARG, NEW, RESEND, SEND};
 
 /// As many records as the limits allow, and bodies to fill 65,535 bytes. It is accepted. A function has arguments and
 /// results in one of the eight parts that depth 3 divides the tree into, and its bodies send functions of that part.
@@ -177,13 +177,33 @@ pub fn chain(times: usize) -> Vec<u8> {
     for _ in 0..times {
         parts.signature(function, [0; 3], 0);
     }
-    // One line of methods, each more specific than the one before.
+    add_line(&mut parts, function, &[[NEW, 0]]);
+    parts.bytes()
+}
+
+/// Adds a line of 382 methods over a chain of 128 classes, each more specific than the one before. All but the first have the body.
+fn add_line(parts: &mut Parts, function: u8, body: &[[u8; 2]]) {
     let mut specialisers = [0; 3];
     parts.method(function, specialisers, 0, &[[NEW, 0]]);
     for number in 0..381 {
         specialisers[number % 3] += 1;
-        parts.method(function, specialisers, 0, &[[NEW, 0]]);
+        parts.method(function, specialisers, 0, body);
     }
+}
+
+/// The line of methods over a chain of classes, in which each but the first resends so many times. Two values at a time become one by
+/// a send. It is accepted.
+pub fn line_of_resends(times: usize) -> Vec<u8> {
+    let mut parts = chained();
+    let function = parts.function(3);
+    let first_of_two = parts.function(2);
+    parts.signature(first_of_two, [0; 3], 0);
+    let mut body = vec![[RESEND, 0]];
+    for _ in 1..times {
+        body.extend([[RESEND, 0], [SEND, first_of_two]]);
+    }
+    add_line(&mut parts, function, &body);
+    parts.method(first_of_two, [0; 3], 0, &[[ARG, 0]]);
     parts.bytes()
 }
 
@@ -372,6 +392,30 @@ pub fn long_run() -> Vec<u8> {
     parts.method(5, [1, 0, 0], 0, &[[NEW, 2]]);
     parts.method(5, [2, 0, 0], 0, &[[NEW, 3]]);
     parts.method(5, [3, 0, 0], 0, &[[NEW, 1]]);
+    parts.bytes()
+}
+
+/// A special method that hands on to a general one, sent over and over in a run of more than ten million steps. It resends; or it
+/// sends another function, which has no arguments, so that no step more is made for these.
+pub fn handing_on(resends: bool) -> Vec<u8> {
+    let mut parts = Parts::default();
+    parts.class(false, &[]);
+    for _ in 1..4 {
+        parts.class(true, &[0]);
+    }
+    for function in 0..6 {
+        parts.function(2);
+        parts.signature(function, [0; 3], 0);
+        if function < 5 {
+            parts.method(function, [0; 3], 0, &sends_next(function));
+        }
+    }
+    let other = parts.function(0);
+    parts.signature(other, [0; 3], 0);
+    let general = [[NEW, 1]];
+    parts.method(5, [0; 3], 0, &general);
+    parts.method(other, [0; 3], 0, &general);
+    parts.method(5, [1, 2, 0], 0, &[if resends { [RESEND, 0] } else { [SEND, other] }]);
     parts.bytes()
 }
 

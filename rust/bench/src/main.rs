@@ -65,9 +65,13 @@ fn cases() -> Vec<Case> {
         without_plain(check_case("check the slowest signature found, accepted", bundles::slowest(1), 0)),
         without_plain(check_case("check the slowest bundle found, 256 signatures, accepted", bundles::slowest(256), 0)),
         without_plain(check_case("check the slowest bundle found, last tuple broken", bundles::slowest_broken(), 13)),
+        check_case("check 382 methods in a line, each of which resends, accepted", bundles::line_of_resends(1), 0),
+        check_case("check the same, each resends 32 times, accepted", bundles::line_of_resends(32), 0),
         run_case("run of 10,000,000 steps", bundles::long_run()),
         run_case("run of 10,000,000 steps, one method to a function, 7 methods", bundles::run_among(7)),
         run_case("run of 10,000,000 steps, the same among 512 methods", bundles::run_among(512)),
+        run_case("run of 10,000,000 steps, a special method resends", bundles::handing_on(true)),
+        run_case("run of 10,000,000 steps, it sends another function instead", bundles::handing_on(false)),
     ]
 }
 

@@ -12,6 +12,8 @@ pub const ARG: u8 = 0;
 pub const NEW: u8 = 1;
 /// Operation of an instruction.
 pub const SEND: u8 = 2;
+/// Operation of an instruction, whose operand is 0.
+pub const RESEND: u8 = 3;
 
 /// A class: whether it is concrete, and its parents.
 #[derive(Clone, Debug)]

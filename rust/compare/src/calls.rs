@@ -3,8 +3,8 @@
 use crate::matrix::PAIRS;
 use crate::rivals::beaten_and_rivals;
 use crate::tally::Tally;
-use crate::{exact, generate, opening, rough};
-use builder::{hex, Parts, Random};
+use crate::{exact, generate, opening, resends, rough};
+use builder::{hex, Method, Parts, Random, RESEND};
 use curiumtoad::{raw, Answer};
 use std::ops::Range;
 
@@ -323,7 +323,16 @@ impl Comparer {
             self.tally.count_scratch(number, answered.buffers[0].lent.len());
         }
         match (call, number) {
-            (Call::Run(..) | Call::RunAccepted(..), 0) => self.tally.count_run(values),
+            (&Call::Run(function, arguments, count), 0 | 25..=27)
+            | (&Call::RunAccepted(function, arguments, count), 0) => {
+                if number == 0 {
+                    self.tally.count_run(values);
+                }
+                if let Some(resends) = plain::resends(bundle, function, arguments, count) {
+                    let accepted = matches!(call, Call::RunAccepted(..));
+                    self.tally.count_resends(resends::kinds(resends, accepted, number, values));
+                }
+            }
             (Call::Open, _) => self.count_opening(bundle, number, values[0] as usize),
             (Call::Ancestry(..), 0) => self.tally.count_ancestry(values[0]),
             (&Call::Lookup(function, arguments), 0) => {
@@ -386,6 +395,10 @@ pub fn choose(random: &mut Random, bundle: &[u8], parts: &Parts) -> Vec<Call> {
     let (function, tuple) = chooser.send();
     let count = chooser.count(bundle, function, tuple);
     calls.push(Call::RunAccepted(function, tuple, count));
+    for (function, tuple) in chooser.resent() {
+        let count = chooser.count(bundle, function, tuple);
+        calls.extend([Call::Run, Call::RunAccepted].map(|call| call(function, tuple, count)));
+    }
     let opened = rough::Opened::of(bundle);
     for _ in 0..2 {
         calls.extend(chooser.rough(opened.as_ref()));
@@ -490,6 +503,22 @@ impl Chooser<'_> {
     fn send(&mut self) -> (u64, [u64; 3]) {
         let (function, tops) = self.function();
         (function, self.tuple(function as u8, tops, Self::class_under))
+    }
+
+    /// Sends to methods that resend, or to more specific ones: one of them, and that with the highest specialisers.
+    fn resent(&mut self) -> Vec<(u64, [u64; 3])> {
+        let mut resending: Vec<&Method> =
+            self.parts.methods.iter().filter(|method| method.body.contains(&[RESEND, 0])).collect();
+        resending.sort_by_key(|method| method.specialisers);
+        let Some(last) = resending.len().checked_sub(1) else {
+            return Vec::new();
+        };
+        [self.random.below(resending.len()), last]
+            .map(|at| {
+                let method = resending[at];
+                (method.function.into(), self.tuple(method.function, method.specialisers, Self::class_under))
+            })
+            .to_vec()
     }
 
     /// A function with the classes of a signature or of a method, or any function with class 0.

@@ -1,13 +1,17 @@
 //! Bundles that need not open: damaged ones, and ones that break a limit.
 
 use crate::sections::{section, two_bytes, CLASSES, METHODS};
-use crate::{generate, long};
+use crate::{generate, long, resends};
 use builder::{Parts, Random, NEW};
 
-/// A bundle, and the parts it was made from. Half of the bundles are damaged.
+/// A bundle, and the parts it was made from. Nearly half of the bundles are damaged.
 pub fn bundle(random: &mut Random, number: usize) -> (Vec<u8>, Parts) {
     if number % 20 == 9 {
         return long_bundle(random);
+    }
+    if number % 10 == 4 {
+        let parts = resends::parts(random);
+        return (parts.bytes(), parts);
     }
     let mut parts = generate::parts(random, number);
     match random.below(24) {
@@ -196,9 +200,9 @@ fn break_rule(parts: &mut Parts, random: &mut Random) {
             let at = random.below(parts.methods.len());
             let place = random.below(parts.methods[at].body.len());
             let arguments = parts.functions[parts.methods[at].function as usize];
-            let operands = [(0, arguments), (0, 3), (1, absent), (2, parts.functions.len() as u8)];
-            let instruction = match random.below(6) {
-                0 => [3, 0],
+            let operands = [(0, arguments), (0, 3), (1, absent), (2, parts.functions.len() as u8), (3, 1), (3, 255)];
+            let instruction = match random.below(8) {
+                0 => [4, 0],
                 1 => [255, 0],
                 _ => random.of(&operands).into(),
             };

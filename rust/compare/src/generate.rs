@@ -2,7 +2,7 @@
 
 use crate::alike;
 use crate::hierarchy::Hierarchy;
-use builder::{Method, Parts, Random, ARG, NEW, SEND};
+use builder::{Method, Parts, Random, ARG, NEW, RESEND, SEND};
 
 /// How many tuples a check of the bundle may have to try, times methods, so that no bundle takes long.
 pub const WORK: usize = 60_000;
@@ -36,7 +36,7 @@ pub fn parts(random: &mut Random, number: usize) -> Parts {
 }
 
 /// Whether the bundle's bytes fit and its check stays within the work.
-fn within(parts: &Parts, work: usize) -> bool {
+pub fn within(parts: &Parts, work: usize) -> bool {
     let hierarchy = Hierarchy::of(parts);
     let mut sum = 0;
     for signature in &parts.signatures {
@@ -260,15 +260,19 @@ fn fitting(parts: &Parts, random: &mut Random, result: u8) -> u8 {
     random.of(&fit)
 }
 
+/// An instruction that takes nothing off the stack: ARG, NEW or RESEND. A method without arguments overrides none.
 fn leaf(parts: &Parts, random: &mut Random, function: u8, result: u8) -> [u8; 2] {
     let arguments = parts.functions[function as usize] as usize;
+    if random.once_in(if arguments > 0 { 6 } else { 100 }) {
+        return [RESEND, 0];
+    }
     if arguments > 0 && random.once_in(2) {
         return [ARG, random.below(arguments) as u8];
     }
     [NEW, fitting(parts, random, result)]
 }
 
-/// Instructions that leave one value: a send of values that fit a signature, or one ARG or NEW.
+/// Instructions that leave one value: a send of values that fit a signature, or one that takes none.
 fn expression(parts: &Parts, random: &mut Random, function: u8, result: u8, budget: usize, body: &mut Vec<[u8; 2]>) {
     if budget < 2 || parts.signatures.is_empty() || random.once_in(6) {
         body.push(leaf(parts, random, function, result));
@@ -294,6 +298,7 @@ fn repair(parts: &mut Parts, random: &mut Random, times: usize, work: usize) -> 
             12 => alike::repair_declared(parts, random, v[5], [v[2], v[3], v[4]]),
             13 => repair_result(parts, random, v),
             14..=17 => repair_body(parts, random, v[0]),
+            25..=27 => repair_resend(parts, random, number, v[0]),
             _ => return true,
         }
         if !within(parts, work) {
@@ -338,6 +343,32 @@ fn repair_body(parts: &mut Parts, random: &mut Random, method: usize) {
         0..=4 => parts.methods[method].body = body(parts, random, function, result),
         5..=6 => parts.methods[method].body = vec![[NEW, fitting(parts, random, result)]],
         _ => parts.classes[result as usize].concrete = true,
+    }
+}
+
+/// Adds a method that the resending one overrides, lets each that it may resend to declare its specialisers, or gives it another
+/// body.
+fn repair_resend(parts: &mut Parts, random: &mut Random, number: u8, method: usize) {
+    let Method { function, specialisers, result, .. } = parts.methods[method];
+    match number {
+        25 if !random.once_in(4) => {
+            let hierarchy = Hierarchy::of(parts);
+            let above = specialisers.map(|lower| {
+                let above: Vec<u8> = hierarchy.classes().filter(|&class| hierarchy.is_under(lower, class)).collect();
+                random.of(&above)
+            });
+            let body = body(parts, random, function, result);
+            let added = Method { function, specialisers: above, declared: above, result, body };
+            if !add_method(parts, added) {
+                repair_body(parts, random, method);
+            }
+        }
+        27 if !random.once_in(4) => {
+            for other in parts.methods.iter_mut().filter(|other| other.function == function) {
+                other.declared = other.specialisers;
+            }
+        }
+        _ => repair_body(parts, random, method),
     }
 }
 

@@ -11,6 +11,7 @@ pub mod json;
 pub mod long;
 pub mod matrix;
 pub mod opening;
+pub mod resends;
 pub mod rivals;
 pub mod rough;
 pub mod sections;

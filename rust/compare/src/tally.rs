@@ -2,11 +2,17 @@
 
 use crate::exact;
 use crate::matrix::PAIRS;
+use crate::resends;
 use crate::rough::{self, KINDS, NARROWED};
 use std::fmt;
 
 /// The numbers of refusals, and 0 for an answer.
-pub const NUMBERS: usize = 25;
+pub const NUMBERS: usize = 28;
+
+/// Whether a check can find the number in a bundle that it is lent scratch enough for, or 0.
+fn of_check(number: usize) -> bool {
+    matches!(number, 0..=17 | 25..=27)
+}
 
 /// Scratches that have to be met, the first of them refused, the others filled.
 const SCRATCHES: [&str; 4] =
@@ -51,6 +57,8 @@ pub struct Tally {
     pub rough: [usize; KINDS.len()],
     /// How many pairs of rough answers there were, of which the second is for classes under those of the first.
     pub narrowed: [usize; NARROWED.len()],
+    /// How many runs were of each kind that resends make.
+    pub resends: [usize; resends::KINDS.len()],
     /// How many runs ended with a value, spent, and deep.
     pub ends: [usize; 3],
     /// The most steps that a run made.
@@ -92,10 +100,15 @@ impl Tally {
         add(&mut self.lookups, kinds);
     }
 
-    /// Counts how a run of number 0 ended.
+    /// Counts how a run ended that nothing stopped.
     pub fn count_run(&mut self, values: [u64; 8]) {
         self.ends[values[0] as usize % 3] += 1;
         self.most_steps = self.most_steps.max(values[7]);
+    }
+
+    /// Counts a run by its kinds.
+    pub fn count_resends(&mut self, kinds: resends::Kinds) {
+        add(&mut self.resends, kinds);
     }
 
     /// Counts a rough answer by its kinds.
@@ -138,12 +151,12 @@ impl Tally {
         }
     }
 
-    /// The numbers 0 to 17 that no check gave, those from 18 on, which are not a check's own, that no call gave, and the kinds of
-    /// scratches, of answers of ancestry, lookup and rough calls, of ambiguous sends and of openings that no call met.
+    /// The numbers of a check that none gave, the others that no call gave, and the kinds of scratches, of answers of ancestry, lookup
+    /// and rough calls, of ambiguous sends, of openings and of runs with resends that no call met.
     pub fn never_seen(&self) -> Vec<String> {
-        let seen = |number: usize| match number {
-            0..=17 => self.checks[number] != 0,
-            _ => self.by_call.iter().any(|(_, counts)| counts[number] != 0),
+        let seen = |number: usize| match of_check(number) {
+            true => self.checks[number] != 0,
+            false => self.by_call.iter().any(|(_, counts)| counts[number] != 0),
         };
         let mut never: Vec<String> = (0..NUMBERS).filter(|&number| !seen(number)).map(|n| n.to_string()).collect();
         let [before, between] = self.beside_twins;
@@ -161,6 +174,7 @@ impl Tally {
             ("lookup:", self.lookup_counts()),
             ("rough answer:", self.rough_counts()),
             ("rough answer:", self.narrowed_counts()),
+            ("a run", self.resend_counts()),
         ] {
             let unmet = counts.into_iter().filter(|(count, _)| *count == 0);
             never.extend(unmet.map(|(_, kind)| format!("{what} {kind}")));
@@ -192,6 +206,11 @@ impl Tally {
         self.rough.into_iter().zip(KINDS).collect()
     }
 
+    /// How many runs were of each kind that resends make, with the kind's name.
+    fn resend_counts(&self) -> Vec<(usize, &'static str)> {
+        self.resends.into_iter().zip(resends::KINDS).collect()
+    }
+
     /// How many pairs of rough answers there were, with the pair's name.
     fn narrowed_counts(&self) -> Vec<(usize, &'static str)> {
         self.narrowed.into_iter().zip(NARROWED).map(|(count, (_, _, name))| (count, name)).collect()
@@ -215,7 +234,7 @@ impl fmt::Display for Tally {
     fn fmt(&self, f: &mut fmt::Formatter<'_>) -> fmt::Result {
         writeln!(f, "{} bundles, {} calls, {} differences", self.bundles, self.calls, self.differences)?;
         writeln!(f, "bundles by the number of their check (0 is accepted):")?;
-        for (number, count) in self.checks.iter().enumerate().take(18) {
+        for (number, count) in self.checks.iter().enumerate().filter(|(number, _)| of_check(*number)) {
             writeln!(f, "  {number:2} {count:8}")?;
         }
         writeln!(f, "numbers by call:")?;
@@ -240,6 +259,7 @@ impl fmt::Display for Tally {
         writeln!(f, "rough answers: {}", listed(&self.rough_counts()))?;
         writeln!(f, "rough answers for classes under those of others: {}", listed(&self.narrowed_counts()))?;
         let [value, spent, deep] = self.ends;
-        writeln!(f, "runs: {value} value, {spent} spent, {deep} deep; at most {} steps", self.most_steps)
+        writeln!(f, "runs: {value} value, {spent} spent, {deep} deep; at most {} steps", self.most_steps)?;
+        writeln!(f, "runs: {}", listed(&self.resend_counts()))
     }
 }

@@ -209,7 +209,7 @@ fn expected(call: &Call, answer: &Json) -> Option<(u8, [u64; 8])> {
             values.extend(answer.get("tuple")?.numbers()?);
             values.extend(answer.get("methods")?.numbers()?);
         }
-        14 | 15 | 17 => values.extend([field("method")?, field("instruction")?]),
+        14 | 15 | 17 | 25..=27 => values.extend([field("method")?, field("instruction")?]),
         16 if matches!(call, Call::Check) => values.extend([field("method")?, field("instruction")?]),
         _ => values = answer.get("values")?.numbers()?,
     }

@@ -4,9 +4,9 @@ use compare::calls::Comparer;
 use compare::made_bundles;
 
 #[test]
-fn a_thousand_bundles() {
+fn two_thousand_bundles() {
     let mut comparer = Comparer::default();
-    made_bundles(1000, 1, &mut comparer);
+    made_bundles(2000, 1, &mut comparer);
     let tally = comparer.tally;
     assert_eq!(tally.differences, 0);
     // Made bundles alone, without the samples, show everything that has to be seen, and which rivals are named.

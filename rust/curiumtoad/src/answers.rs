@@ -86,7 +86,7 @@ pub enum Refusal {
     Method(u64),
     /// 8: an earlier method of the same function has the specialisers of this one.
     Twin(u64),
-    /// 9: this method's body has an unknown operation, or an operand that names nothing.
+    /// 9: this method's body has an unknown operation, an operand that names nothing, or a resend with an operand.
     Operand(u64),
     /// 18: an absent function, method, signature or class, an unused argument that is not 0, an abstract class in a run
     /// or a witness, or a witness tuple that the signature does not cover.
@@ -146,7 +146,7 @@ impl fmt::Display for Refusal {
             Refusal::Signature(record) => write!(f, "signature record {record} breaks its rule"),
             Refusal::Method(record) => write!(f, "method record {record} breaks its rule"),
             Refusal::Twin(record) => write!(f, "method {record} has an earlier twin"),
-            Refusal::Operand(record) => write!(f, "the body of method {record} names what is not there"),
+            Refusal::Operand(record) => write!(f, "the body of method {record} has a wrong operation or operand"),
             Refusal::Absent => write!(f, "a number names nothing that this call takes"),
             Refusal::Scratch => write!(f, "the scratch is too short"),
             Refusal::Row => write!(f, "the row is too short"),
@@ -447,6 +447,12 @@ pub enum BodyFault {
     NoLicence,
     /// 17: the type left at the end does not contain the method's result class.
     Result,
+    /// 25: a resend of a method that overrides no other.
+    NoOverridden,
+    /// 26: a resend of a method that overrides others, none of which leads.
+    AmbiguousResend,
+    /// 27: a declared class of the method that a resend goes to is not in the type of the argument.
+    NarrowTarget,
 }
 
 /// A method whose body breaks a rule, and the instruction that does; the end counts as one more instruction.
@@ -458,13 +464,16 @@ pub struct BrokenBody {
 }
 
 impl BrokenBody {
-    /// The broken body of a reply of number 14 to 17.
+    /// The broken body of a reply of number 14 to 17 or 25 to 27.
     fn of(reply: Reply) -> Option<BrokenBody> {
         let fault = match reply.number {
             14 => BodyFault::Values,
             15 => BodyFault::Abstract,
             16 => BodyFault::NoLicence,
             17 => BodyFault::Result,
+            25 => BodyFault::NoOverridden,
+            26 => BodyFault::AmbiguousResend,
+            27 => BodyFault::NarrowTarget,
             _ => return None,
         };
         Some(BrokenBody { method: reply.values[0], instruction: reply.values[1], fault })
@@ -476,6 +485,9 @@ impl BrokenBody {
             BodyFault::Abstract => 15,
             BodyFault::NoLicence => 16,
             BodyFault::Result => 17,
+            BodyFault::NoOverridden => 25,
+            BodyFault::AmbiguousResend => 26,
+            BodyFault::NarrowTarget => 27,
         };
         Reply::new(number, &[self.method, self.instruction])
     }
@@ -568,7 +580,7 @@ pub enum Ending {
     Value(u64),
     /// The steps made equal the count, and an instruction is left.
     Spent,
-    /// A send would need a 33rd frame.
+    /// A send or a resend would need a 33rd frame.
     Deep,
     /// 10: no method applies to this send.
     NoMethod(Sent),
@@ -580,6 +592,12 @@ pub enum Ending {
     Values { method: u64, instruction: u64 },
     /// 15: NEW of an abstract class.
     Abstract { method: u64, instruction: u64 },
+    /// 25: a resend of this method, which overrides no other.
+    NoOverridden { method: u64, instruction: u64 },
+    /// 26: a resend of this method, which overrides others, none of which leads.
+    AmbiguousResend { method: u64, instruction: u64 },
+    /// 27: a resend of this method; an argument class is not under the declared class of the method that it goes to.
+    NarrowTarget { method: u64, instruction: u64 },
 }
 
 /// The answer of a run.
@@ -604,6 +622,9 @@ impl Answer for Run {
             (12, _) => Ending::Declared(Sent::at(&v), v[4]),
             (14, method) => Ending::Values { method, instruction: v[1] },
             (15, method) => Ending::Abstract { method, instruction: v[1] },
+            (25, method) => Ending::NoOverridden { method, instruction: v[1] },
+            (26, method) => Ending::AmbiguousResend { method, instruction: v[1] },
+            (27, method) => Ending::NarrowTarget { method, instruction: v[1] },
             _ => return Run::Refused(Refusal::of(reply)),
         };
         Run::Ended { ending, steps: v[7] }
@@ -623,20 +644,23 @@ impl Answer for Run {
             Ending::Declared(sent, method) => sent_reply(12, sent, &[*method]),
             Ending::Values { method, instruction } => Reply::new(14, &[*method, *instruction]),
             Ending::Abstract { method, instruction } => Reply::new(15, &[*method, *instruction]),
+            Ending::NoOverridden { method, instruction } => Reply::new(25, &[*method, *instruction]),
+            Ending::AmbiguousResend { method, instruction } => Reply::new(26, &[*method, *instruction]),
+            Ending::NarrowTarget { method, instruction } => Reply::new(27, &[*method, *instruction]),
         };
         reply.values[7] = *steps;
         reply
     }
 }
 
-/// The answer of a run of an accepted bundle. It has no case for a send or a body that fails: none does.
+/// The answer of a run of an accepted bundle. It has no case for a send, a resend or a body that fails: none does.
 #[derive(Clone, Copy, Debug, PartialEq, Eq)]
 pub enum AcceptedRun {
     /// The opening body ended with this class.
     Value { class: u64, steps: u64 },
     /// The steps made equal the count, and an instruction is left.
     Spent { steps: u64 },
-    /// A send would need a 33rd frame.
+    /// A send or a resend would need a 33rd frame.
     Deep { steps: u64 },
     /// The bundle is not accepted, and nothing was run.
     NotAccepted(Finding),

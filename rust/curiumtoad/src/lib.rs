@@ -30,7 +30,7 @@ pub use answers::{
 use std::ops::Range;
 
 /// The version of the library's C functions that this crate declares.
-pub const VERSION: u32 = 4;
+pub const VERSION: u32 = 5;
 /// The least length of a scratch.
 pub const SCRATCH: usize = 2_048;
 /// The least length of a row.
@@ -151,13 +151,17 @@ pub fn send_type(bundle: &[u8], scratch: &mut [u8], row: &mut [u8], function: u6
 /// broken method.
 ///
 /// ```
-/// use curiumtoad::{check, Fault, Finding, Verdict, SCRATCH};
+/// use curiumtoad::{check, BodyFault, Fault, Finding, Verdict, SCRATCH};
 ///
 /// let bundle = std::fs::read("../../bundles/chart-3.bundle")?;
 /// let Verdict::Broken(Finding::Coverage(broken)) = check(&bundle, &mut [0; SCRATCH]) else { panic!() };
 /// assert_eq!(broken.signature, 0);
 /// assert_eq!(broken.sent.arguments, [2, 4, 0]);
 /// assert_eq!(broken.fault, Fault::Rivals([1, 0]));
+/// // A method resends, and overrides no other.
+/// let bundle = std::fs::read("../../bundles/no-overridden.bundle")?;
+/// let Verdict::Broken(Finding::Body(broken)) = check(&bundle, &mut [0; SCRATCH]) else { panic!() };
+/// assert_eq!(broken.fault, BodyFault::NoOverridden);
 /// # Ok::<(), std::io::Error>(())
 /// ```
 pub fn check(bundle: &[u8], scratch: &mut [u8]) -> Verdict {
@@ -177,7 +181,8 @@ pub fn witness(bundle: &[u8], scratch: &mut [u8], signature: u64, arguments: [u6
     Answer::of(raw::reply(|values| raw::witness(bundle, scratch, signature, arguments, values)))
 }
 
-/// The part of the bundle that is the method's code: pairs of operation and operand.
+/// The part of the bundle that is the method's code: pairs of operation and operand. The operations are 0, an argument; 1, a new
+/// instance of a class; 2, a send of a function; and 3, a resend, whose operand is 0.
 ///
 /// ```
 /// use curiumtoad::{body, Refusal};
@@ -207,8 +212,8 @@ pub fn run(bundle: &[u8], scratch: &mut [u8], function: u64, arguments: [u64; 3]
     Answer::of(raw::reply(|values| raw::run(bundle, scratch, function, arguments, count, values)))
 }
 
-/// Checks the bundle and runs a send that a signature covers. No send of such a run fails, so the run ends with a value,
-/// with its steps spent, or too deep.
+/// Checks the bundle and runs a send that a signature covers. No send and no resend of such a run fails, so the run ends with a
+/// value, with its steps spent, or too deep.
 ///
 /// ```
 /// use curiumtoad::{run_accepted, AcceptedRun, SCRATCH};

@@ -1,9 +1,9 @@
 //! The sample bundles by the wrapper's types, and buffers of every length.
 
 use curiumtoad::{
-    ancestry, body, chart, check, listing, lookup, open, rough, run, run_accepted, send_type, witness, AcceptedRun,
-    Ancestry, BodyFault, BrokenBody, BrokenSignature, Chart, Ending, Fault, Finding, Lookup, Refusal, Rough, Run,
-    SendType, Sent, Verdict, Witness, LINE, ROW, SCRATCH, TEXT,
+    ancestry, body, chart, check, listing, lookup, open, raw, rough, run, run_accepted, send_type, witness,
+    AcceptedRun, Ancestry, BodyFault, BrokenBody, BrokenSignature, Chart, Ending, Fault, Finding, Lookup, Refusal,
+    Rough, Run, SendType, Sent, Verdict, Witness, LINE, ROW, SCRATCH, TEXT,
 };
 
 fn sample(name: &str) -> Vec<u8> {
@@ -31,7 +31,7 @@ fn bodies(verdict: Verdict) -> BrokenBody {
 
 #[test]
 fn accepted_samples() {
-    for name in ["chart-4", "chart-5", "loop", "one-class", "abstract-argument"] {
+    for name in ["chart-4", "chart-5", "loop", "one-class", "abstract-argument", "resend"] {
         assert_eq!(verdict(name), Verdict::Accepted, "{name}");
     }
 }
@@ -45,6 +45,48 @@ fn refused_samples() {
     assert_eq!(bodies(verdict("abstract-new")).fault, BodyFault::Abstract);
     assert_eq!(bodies(verdict("no-licence")).fault, BodyFault::NoLicence);
     assert_eq!(bodies(verdict("loose-result")).fault, BodyFault::Result);
+    assert_eq!(bodies(verdict("no-overridden")).fault, BodyFault::NoOverridden);
+    assert_eq!(bodies(verdict("ambiguous-resend")).fault, BodyFault::AmbiguousResend);
+    assert_eq!(bodies(verdict("narrow-target")).fault, BodyFault::NarrowTarget);
+    assert!(matches!(verdict("resend-operand"), Verdict::Refused(Refusal::Operand(_))));
+}
+
+/// The sample chart-4 with a resend for the body of a method. Methods 0 and 1 override 2 alone, which overrides none, and 3
+/// overrides all of these.
+fn chart_resending(method: u64) -> Vec<u8> {
+    let mut bundle = sample("chart-4");
+    let mut values = raw::Values::default();
+    assert_eq!(raw::body(&bundle, method, &mut values), 0);
+    bundle[values[0] as usize..][..2].copy_from_slice(&[3, 0]);
+    bundle
+}
+
+#[test]
+fn resends_of_a_sample() {
+    let mut scratch = [0; SCRATCH];
+    let bundle = chart_resending(0);
+    assert_eq!(check(&bundle, &mut scratch), Verdict::Accepted);
+    let answer = run_accepted(&bundle, &mut scratch, 0, [1, 4, 0], 2);
+    assert_eq!(answer, AcceptedRun::Value { class: 6, steps: 2 });
+
+    let instruction = 0;
+    for (method, arguments, fault, ending) in [
+        (2, [1, 3, 0], BodyFault::NoOverridden, Ending::NoOverridden { method: 2, instruction }),
+        (3, [2, 4, 0], BodyFault::AmbiguousResend, Ending::AmbiguousResend { method: 3, instruction }),
+    ] {
+        let bundle = chart_resending(method);
+        let finding = Finding::Body(BrokenBody { method, instruction, fault });
+        assert_eq!(check(&bundle, &mut scratch), Verdict::Broken(finding));
+        assert_eq!(run(&bundle, &mut scratch, 0, arguments, 9), Run::Ended { ending, steps: 0 });
+        assert_eq!(run_accepted(&bundle, &mut scratch, 0, arguments, 9), AcceptedRun::NotAccepted(finding));
+    }
+
+    // The records of the methods begin where bytes 16 and 17 say; method 2 declares class 4 at its second place.
+    let mut bundle = chart_resending(1);
+    let methods = u16::from_le_bytes([bundle[16], bundle[17]]) as usize;
+    bundle[methods + 2 * 12 + 5] = 4;
+    let ending = Ending::NarrowTarget { method: 1, instruction };
+    assert_eq!(run(&bundle, &mut scratch, 0, [2, 3, 0], 9), Run::Ended { ending, steps: 0 });
 }
 
 #[test]

@@ -1,12 +1,13 @@
 //! The check of bodies, with types as sets of 128 bits.
 
+use crate::coverage::{self, Functions};
 use crate::layout::Tables;
 use crate::Broken;
 
-pub fn check(tables: &Tables) -> Result<(), Broken> {
+pub fn check(tables: &Tables, functions: &mut Functions) -> Result<(), Broken> {
     let by_function = by_function(tables);
     for (number, record) in tables.methods.iter().enumerate() {
-        if let Some((broken, instruction)) = broken_body(tables, &by_function, record) {
+        if let Some((broken, instruction)) = broken_body(tables, functions, &by_function, record) {
             return Err(Broken::new(broken, &[number as u64, instruction as u64]));
         }
     }
@@ -50,21 +51,22 @@ fn by_function(tables: &Tables) -> ByFunction {
     ByFunction { licences, starts }
 }
 
-fn broken_body(tables: &Tables, signatures: &ByFunction, record: &[u8; 12]) -> Option<(u8, usize)> {
+fn broken_body(
+    tables: &Tables,
+    functions: &mut Functions,
+    signatures: &ByFunction,
+    record: &[u8; 12],
+) -> Option<(u8, usize)> {
     // A body has at most 64 instructions, and each leaves one type more at most.
     let mut stack = [0u128; 64];
     let mut height = 0;
     let body = tables.body(record);
     for (at, &[operation, operand]) in body.iter().enumerate() {
         let pushed = match operation {
-            0 => {
-                let specialiser = record[1 + operand as usize];
-                let declared = record[4 + operand as usize];
-                tables.ancestors[specialiser as usize] | tables.ancestors[declared as usize]
-            }
+            0 => argument_type(tables, record, operand as usize),
             1 if tables.concrete >> operand & 1 == 1 => tables.ancestors[operand as usize],
             1 => return Some((15, at)),
-            _ => {
+            2 => {
                 let places = tables.functions[operand as usize] as usize;
                 if height < places {
                     return Some((14, at));
@@ -76,6 +78,11 @@ fn broken_body(tables: &Tables, signatures: &ByFunction, record: &[u8; 12]) -> O
                 }
                 sent
             }
+            _ => match coverage::target(tables, functions, record) {
+                Ok(target) if declared_in(tables, record, target) => tables.ancestors[target[7] as usize],
+                Ok(_) => return Some((27, at)),
+                Err(number) => return Some((number, at)),
+            },
         };
         stack[height] = pushed;
         height += 1;
@@ -87,6 +94,15 @@ fn broken_body(tables: &Tables, signatures: &ByFunction, record: &[u8; 12]) -> O
         return Some((17, body.len()));
     }
     None
+}
+
+fn argument_type(tables: &Tables, record: &[u8; 12], place: usize) -> u128 {
+    tables.ancestors[record[1 + place] as usize] | tables.ancestors[record[4 + place] as usize]
+}
+
+/// Whether the target's declared classes are in the types of a method's arguments. Unused places hold 0, which is in every type.
+fn declared_in(tables: &Tables, record: &[u8; 12], target: &[u8; 12]) -> bool {
+    (0..3).all(|place| argument_type(tables, record, place) >> target[4 + place] & 1 == 1)
 }
 
 /// The union of the licensing signatures' result types; empty where none licenses.

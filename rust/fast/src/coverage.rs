@@ -1,4 +1,4 @@
-//! Coverage and rough answers, with sets of methods as words of bits.
+//! Coverage, rough answers and where resends go, with sets of methods as words of bits.
 
 use crate::layout::Tables;
 use crate::Broken;
@@ -6,21 +6,42 @@ use crate::Broken;
 /// A set of up to 64·W methods of one function, by their places in its order.
 type Set<const W: usize> = [u64; W];
 
-pub fn check(tables: &Tables) -> Result<(), Broken> {
-    let mut counts = [0usize; 64];
-    for method in tables.methods {
-        counts[method[0] as usize] += 1;
-    }
-    let mut functions: Vec<Option<AnyFunction>> = Vec::new();
-    functions.resize_with(tables.functions.len(), || None);
+pub fn check(tables: &Tables, functions: &mut Functions) -> Result<(), Broken> {
     for (number, signature) in tables.signatures.iter().enumerate() {
-        let function = signature[0] as usize;
-        let sets = functions[function].get_or_insert_with(|| {
-            AnyFunction::of(tables, signature[0], counts[function], |method, place| method[4 + place])
-        });
-        sets.check(tables, number, signature)?;
+        functions.sets(tables, signature[0]).check(tables, number, signature)?;
     }
     Ok(())
+}
+
+/// Where a resend of a method goes: the record of the target, or 25 or 26 where there is none.
+pub fn target<'a>(tables: &Tables<'a>, functions: &mut Functions, method: &[u8; 12]) -> Result<&'a [u8; 12], u8> {
+    let target = functions.sets(tables, method[0]).target([method[1], method[2], method[3]])?;
+    Ok(&tables.methods[target as usize])
+}
+
+/// The sets of those functions that a check has come to.
+pub struct Functions {
+    /// How many methods each function has.
+    counts: [usize; 64],
+    sets: Vec<Option<AnyFunction>>,
+}
+
+impl Functions {
+    pub fn of(tables: &Tables) -> Functions {
+        let mut counts = [0; 64];
+        for method in tables.methods {
+            counts[method[0] as usize] += 1;
+        }
+        let mut sets = Vec::new();
+        sets.resize_with(tables.functions.len(), || None);
+        Functions { counts, sets }
+    }
+
+    fn sets(&mut self, tables: &Tables, function: u8) -> &mut AnyFunction {
+        let count = self.counts[function as usize];
+        self.sets[function as usize]
+            .get_or_insert_with(|| AnyFunction::of(tables, function, count, |method, place| method[4 + place]))
+    }
 }
 
 /// What the tuples find that have a concrete class under the upper class at each place.
@@ -73,6 +94,15 @@ impl AnyFunction {
             AnyFunction::Two(sets) => sets.rough(tables, uppers),
             AnyFunction::Four(sets) => sets.rough(tables, uppers),
             AnyFunction::Eight(sets) => sets.rough(tables, uppers),
+        }
+    }
+
+    fn target(&self, specialisers: [u8; 3]) -> Result<u16, u8> {
+        match self {
+            AnyFunction::One(sets) => sets.target(specialisers),
+            AnyFunction::Two(sets) => sets.target(specialisers),
+            AnyFunction::Four(sets) => sets.target(specialisers),
+            AnyFunction::Eight(sets) => sets.target(specialisers),
         }
     }
 }
@@ -249,6 +279,21 @@ impl<const W: usize> Function<W> {
     fn apply(&self, tuple: [u8; 3]) -> Set<W> {
         let sets = self.applying[..self.places].iter().zip(tuple);
         sets.fold(first_bits(self.order.len()), |apply, (sets, class)| both(&apply, &sets[class as usize]))
+    }
+
+    /// Where a resend of the method with these specialisers goes. The method itself applies to them too, and stands before
+    /// all that it overrides.
+    fn target(&self, specialisers: [u8; 3]) -> Result<u16, u8> {
+        let mut overridden = self.apply(specialisers);
+        if let Some(own) = lowest(&overridden) {
+            overridden[own / 64] &= !(1 << (own % 64));
+        }
+        let first = lowest(&overridden).ok_or(25)?;
+        if self.leads(&overridden, &overridden) {
+            Ok(self.order[first])
+        } else {
+            Err(26)
+        }
     }
 
     /// Why a tuple is broken, and by which methods.

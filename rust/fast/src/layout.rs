@@ -184,6 +184,8 @@ impl<'a> Tables<'a> {
         let mut bounds = [0u8; 256];
         bounds[1] = self.classes as u8;
         bounds[2] = self.functions.len() as u8;
+        // A resend has the operand 0.
+        bounds[3] = 1;
         for (number, record) in self.methods.iter().enumerate() {
             bounds[0] = self.functions[record[0] as usize];
             if self.body(record).iter().any(|&[operation, operand]| operand >= bounds[operation as usize]) {

@@ -6,6 +6,8 @@
 //!   then the first of it, and one comparison of sets says whether it does.
 //! - For each place and class one set of bits holds the methods that apply there, so narrowing is an AND.
 //! - Classes that no method tells apart at a place are tried once, and sets of methods that were found good are kept.
+//! - What a method overrides are those that apply to its specialisers, itself left out: the next of the order is the target of
+//!   a resend, or there is none.
 //! - A rough answer is the same search, for a tuple that does not find what the first one finds, then for one that fails.
 //!
 //! The numbers and values are those of the library's calls, the first broken tuple in number order included.
@@ -14,7 +16,7 @@ mod bodies;
 mod coverage;
 mod layout;
 
-use coverage::Rough;
+use coverage::{Functions, Rough};
 use layout::Tables;
 
 /// The least length of the scratch: a bit for each pair of classes.
@@ -88,8 +90,9 @@ fn related(bundle: &[u8], scratch: &mut [u8], a: u64, b: u64) -> Result<u64, Bro
 
 fn verdict(bundle: &[u8], scratch: &mut [u8]) -> Result<(), Broken> {
     let tables = prepare(bundle, scratch)?;
-    coverage::check(&tables)?;
-    bodies::check(&tables)
+    let mut functions = Functions::of(&tables);
+    coverage::check(&tables, &mut functions)?;
+    bodies::check(&tables, &mut functions)
 }
 
 fn rough_answer(bundle: &[u8], scratch: &mut [u8], function: u64, uppers: [u64; 3]) -> Result<Rough, Broken> {

@@ -28,6 +28,7 @@ pub enum Instruction {
     Arg(usize),
     New(usize),
     Send(usize),
+    Resend,
 }
 
 pub struct Bundle {
@@ -252,6 +253,7 @@ fn body(record: &MethodRecord, bundle: &Bundle) -> Option<Vec<Instruction>> {
                 0 if operand < arguments => Some(Instruction::Arg(operand)),
                 1 if operand < bundle.classes.len() => Some(Instruction::New(operand)),
                 2 if operand < bundle.functions.len() => Some(Instruction::Send(operand)),
+                3 if operand == 0 => Some(Instruction::Resend),
                 _ => None,
             }
         })

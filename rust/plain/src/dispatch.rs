@@ -1,4 +1,4 @@
-//! Ancestry and lookup.
+//! Ancestry, lookup, and where a resend goes.
 
 use crate::bundle::{Bundle, Method};
 use crate::Triple;
@@ -83,27 +83,46 @@ pub fn is_exact(bundle: &Bundle, matrix: &Matrix, method: &Method, tuple: Triple
 pub enum Found {
     One(usize),
     None,
-    /// Of the methods that apply, and that none of the rest equals or beats in being specific, the two highest, the higher
+    /// Of the methods to choose from, and that none of the rest equals or beats in being specific, the two highest, the higher
     /// one first.
     Rivals(usize, usize),
 }
 
-/// Of the methods that apply, the one that is at least as specific as all the rest.
+/// What a send finds: a choice from the methods that apply.
 pub fn lookup(bundle: &Bundle, matrix: &Matrix, function: usize, tuple: Triple) -> Found {
+    select(bundle, matrix, &applicable(bundle, matrix, function, tuple))
+}
+
+/// Where a resend of a method goes: a choice from the methods that it overrides, which are those that apply to its own
+/// specialisers, itself left out. What arguments it was called with does not matter.
+pub fn overridden(bundle: &Bundle, matrix: &Matrix, method: usize) -> Found {
+    let Method { function, specialisers, .. } = bundle.methods[method];
+    let mut others = applicable(bundle, matrix, function, specialisers);
+    others.retain(|&other| other != method);
+    select(bundle, matrix, &others)
+}
+
+/// The methods of the function that apply to the tuple, rising.
+fn applicable(bundle: &Bundle, matrix: &Matrix, function: usize, tuple: Triple) -> Vec<usize> {
     let places = bundle.functions[function];
     let applies = |m: &Method| m.function == function && matrix.all_under(places, tuple, m.specialisers);
+    (0..bundle.methods.len()).filter(|&m| applies(&bundle.methods[m])).collect()
+}
+
+/// Of methods of one function, the one that is at least as specific as all the rest.
+fn select(bundle: &Bundle, matrix: &Matrix, methods: &[usize]) -> Found {
+    let Some(&first) = methods.first() else {
+        return Found::None;
+    };
+    let places = bundle.functions[bundle.methods[first].function];
     let at_least =
         |m: usize, n: usize| matrix.all_under(places, bundle.methods[m].specialisers, bundle.methods[n].specialisers);
-    let applicable: Vec<usize> = (0..bundle.methods.len()).filter(|&m| applies(&bundle.methods[m])).collect();
-    if applicable.is_empty() {
-        return Found::None;
-    }
-    let leads = |&m: &usize| applicable.iter().all(|&other| other == m || at_least(m, other));
-    if let Some(method) = applicable.iter().copied().find(leads) {
+    let leads = |&m: &usize| methods.iter().all(|&other| other == m || at_least(m, other));
+    if let Some(method) = methods.iter().copied().find(leads) {
         return Found::One(method);
     }
-    let unbeaten = |&m: &usize| applicable.iter().all(|&other| other == m || !at_least(other, m));
-    let mut rivals = applicable.iter().copied().rev().filter(unbeaten);
+    let unbeaten = |&m: &usize| methods.iter().all(|&other| other == m || !at_least(other, m));
+    let mut rivals = methods.iter().copied().rev().filter(unbeaten);
     match (rivals.next(), rivals.next()) {
         (Some(first), Some(second)) => Found::Rivals(first, second),
         _ => unreachable!("without twins, fewer than two unbeaten methods would mean that one leads"),

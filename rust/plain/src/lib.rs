@@ -17,7 +17,7 @@ mod typing;
 use bundle::{Broken, Bundle};
 use coverage::Fault;
 use dispatch::{Ancestry, Found, Matrix};
-use machine::Ending;
+use machine::{Ending, Outcome};
 use rough::Rough;
 
 /// The classes of a call, a signature or a method, place by place. Unused places hold 0.
@@ -215,11 +215,30 @@ pub fn run(bundle: &[u8], scratch: &mut [u8], function: u64, arguments: [u64; 3]
         Err(refusal) => return refusal,
         Ok(prepared) => prepared,
     };
+    run_of(&bundle, &matrix, function, arguments, count).map_or(Reply::new(ABSENT, &[]), ended)
+}
+
+/// The run of a send, where it is one of concrete classes.
+fn run_of(bundle: &Bundle, matrix: &Matrix, function: u64, arguments: [u64; 3], count: u32) -> Option<Outcome> {
     let (f, t) = numbers(function, arguments);
-    if !send_present(&bundle, f, t) || !all_concrete(&bundle, f, t) {
-        return Reply::new(ABSENT, &[]);
-    }
-    ended(machine::run(&bundle, &matrix, f, t, count))
+    let lawful = send_present(bundle, f, t) && all_concrete(bundle, f, t);
+    lawful.then(|| machine::run(bundle, matrix, f, t, count))
+}
+
+/// How a run had to do with resends.
+#[derive(Clone, Copy, Debug, PartialEq, Eq)]
+pub struct Resends {
+    /// How many it made.
+    pub made: u32,
+    /// In which frame, counted from below, it ended at one, if it did: spent before it, too deep for it, or stopped by it.
+    pub ended_in: Option<usize>,
+}
+
+/// How the run of one send had to do with resends; none where the call is refused.
+pub fn resends(bundle: &[u8], function: u64, arguments: [u64; 3], count: u32) -> Option<Resends> {
+    let bundle = Bundle::open(bundle).ok()?;
+    let outcome = run_of(&bundle, &Matrix::of(&bundle), function, arguments, count)?;
+    Some(Resends { made: outcome.resends, ended_in: outcome.at_resend })
 }
 
 /// A run of one send on an accepted bundle. A refusal of the run comes first, then the check, then an opening send that
@@ -322,8 +341,8 @@ fn broken_signature(s: usize, f: usize, t: Triple, fault: Fault) -> Reply {
     }
 }
 
-fn ended((ending, steps): (Ending, u32)) -> Reply {
-    let reply = match ending {
+fn ended(outcome: Outcome) -> Reply {
+    let reply = match outcome.ending {
         Ending::Value(class) => Reply::new(0, &[0, class]),
         Ending::Spent => Reply::new(0, &[1]),
         Ending::Deep => Reply::new(0, &[2]),
@@ -332,6 +351,9 @@ fn ended((ending, steps): (Ending, u32)) -> Reply {
         Ending::Declared(f, t, m) => Reply::new(12, &[f, t[0], t[1], t[2], m]),
         Ending::Values(method, instruction) => Reply::new(14, &[method, instruction]),
         Ending::Abstract(method, instruction) => Reply::new(15, &[method, instruction]),
+        Ending::NoOverridden(method, instruction) => Reply::new(25, &[method, instruction]),
+        Ending::AmbiguousResend(method, instruction) => Reply::new(26, &[method, instruction]),
+        Ending::NarrowTarget(method, instruction) => Reply::new(27, &[method, instruction]),
     };
-    reply.with_steps(steps)
+    reply.with_steps(outcome.steps)
 }

@@ -14,6 +14,19 @@ pub enum Ending {
     Declared(usize, Triple, usize),
     Values(usize, usize),
     Abstract(usize, usize),
+    NoOverridden(usize, usize),
+    AmbiguousResend(usize, usize),
+    NarrowTarget(usize, usize),
+}
+
+/// How a run went.
+pub struct Outcome {
+    pub ending: Ending,
+    /// How many instructions were made, and how many of them were resends.
+    pub steps: u32,
+    pub resends: u32,
+    /// In which frame, counted from below, the run ended at a resend, if it ended at one.
+    pub at_resend: Option<usize>,
 }
 
 const FRAMES: usize = 32;
@@ -33,42 +46,56 @@ impl Frame {
 }
 
 /// Runs a send with concrete arguments, for at most `count` steps. The opening lookup is no step.
-pub fn run(bundle: &Bundle, matrix: &Matrix, function: usize, tuple: Triple, count: u32) -> (Ending, u32) {
-    let mut frame = match target(bundle, matrix, function, tuple) {
+pub fn run(bundle: &Bundle, matrix: &Matrix, function: usize, tuple: Triple, count: u32) -> Outcome {
+    let (mut steps, mut resends) = (0, 0);
+    let mut frame = match found(bundle, matrix, function, tuple) {
         Ok(method) => Frame::of(method, tuple),
-        Err(ending) => return (ending, 0),
+        Err(ending) => return Outcome { ending, steps, resends, at_resend: None },
     };
     let mut callers: Vec<Frame> = Vec::new();
-    let mut steps = 0;
     loop {
-        // The end of a body costs nothing, and more than one may come at once.
-        while frame.next == bundle.methods[frame.method].body.len() {
-            let [value] = frame.stack[..] else {
-                return (Ending::Values(frame.method, frame.next), steps);
+        let body = &bundle.methods[frame.method].body;
+        let Some(&instruction) = body.get(frame.next) else {
+            // The end of a body costs nothing.
+            let ending = match frame.stack[..] {
+                [value] => match callers.pop() {
+                    Some(caller) => {
+                        frame = caller;
+                        frame.stack.push(value);
+                        continue;
+                    }
+                    None => Ending::Value(value),
+                },
+                _ => Ending::Values(frame.method, frame.next),
             };
-            let Some(mut caller) = callers.pop() else {
-                return (Ending::Value(value), steps);
-            };
-            caller.stack.push(value);
-            frame = caller;
-        }
+            return Outcome { ending, steps, resends, at_resend: None };
+        };
+        let depth = callers.len() + 1;
+        let at_resend = matches!(instruction, Instruction::Resend).then_some(depth);
         if steps == count {
-            return (Ending::Spent, steps);
+            return Outcome { ending: Ending::Spent, steps, resends, at_resend };
         }
-        match step(bundle, matrix, &mut frame, callers.len() + 1) {
+        match step(bundle, matrix, &mut frame, instruction, depth) {
             Ok(None) => {}
             Ok(Some(opened)) => callers.push(std::mem::replace(&mut frame, opened)),
-            Err(ending) => return (ending, steps),
+            Err(ending) => return Outcome { ending, steps, resends, at_resend },
         }
         steps += 1;
+        resends += at_resend.is_some() as u32;
     }
 }
 
 /// One instruction of the top frame, which is number `depth` from below: the frame that it opens, if it opens one. A
 /// failing instruction is not counted.
-fn step(bundle: &Bundle, matrix: &Matrix, frame: &mut Frame, depth: usize) -> Result<Option<Frame>, Ending> {
+fn step(
+    bundle: &Bundle,
+    matrix: &Matrix,
+    frame: &mut Frame,
+    instruction: Instruction,
+    depth: usize,
+) -> Result<Option<Frame>, Ending> {
     let mut opened = None;
-    match bundle.methods[frame.method].body[frame.next] {
+    match instruction {
         Instruction::Arg(place) => frame.stack.push(frame.arguments[place]),
         Instruction::New(class) if bundle.classes[class].concrete => frame.stack.push(class),
         Instruction::New(_) => return Err(Ending::Abstract(frame.method, frame.next)),
@@ -79,20 +106,32 @@ fn step(bundle: &Bundle, matrix: &Matrix, frame: &mut Frame, depth: usize) -> Re
             };
             let mut tuple = [0; 3];
             tuple[..places].copy_from_slice(&frame.stack[rest..]);
-            let method = target(bundle, matrix, function, tuple)?;
-            if depth == FRAMES {
-                return Err(Ending::Deep);
-            }
+            let method = found(bundle, matrix, function, tuple)?;
             frame.stack.truncate(rest);
             opened = Some(Frame::of(method, tuple));
         }
+        Instruction::Resend => opened = Some(Frame::of(target(bundle, matrix, frame)?, frame.arguments)),
+    }
+    if opened.is_some() && depth == FRAMES {
+        return Err(Ending::Deep);
     }
     frame.next += 1;
     Ok(opened)
 }
 
+/// The method that a resend of the frame opens another for: 25, 26, 27 in this order where there is none.
+fn target(bundle: &Bundle, matrix: &Matrix, frame: &Frame) -> Result<usize, Ending> {
+    let places = bundle.functions[bundle.methods[frame.method].function];
+    match dispatch::overridden(bundle, matrix, frame.method) {
+        Found::None => Err(Ending::NoOverridden(frame.method, frame.next)),
+        Found::Rivals(..) => Err(Ending::AmbiguousResend(frame.method, frame.next)),
+        Found::One(target) if matrix.all_under(places, frame.arguments, bundle.methods[target].declared) => Ok(target),
+        Found::One(_) => Err(Ending::NarrowTarget(frame.method, frame.next)),
+    }
+}
+
 /// The method that a send opens a frame for: 10, 11, 12 in this order where there is none.
-fn target(bundle: &Bundle, matrix: &Matrix, function: usize, tuple: Triple) -> Result<usize, Ending> {
+fn found(bundle: &Bundle, matrix: &Matrix, function: usize, tuple: Triple) -> Result<usize, Ending> {
     match dispatch::lookup(bundle, matrix, function, tuple) {
         Found::None => Err(Ending::NoMethod(function, tuple)),
         Found::Rivals(first, second) => Err(Ending::Rivals(function, tuple, first, second)),

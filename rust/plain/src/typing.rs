@@ -1,12 +1,12 @@
 //! Static types and the check of bodies.
 
 use crate::bundle::{Bundle, Instruction, Method};
-use crate::dispatch::Matrix;
+use crate::dispatch::{self, Found, Matrix};
 
 /// A set of classes.
 pub type Type = [bool; 128];
 
-/// A broken body rule, numbers 14 to 17, and the instruction that breaks it.
+/// A broken body rule, numbers 14 to 17 and 25 to 27, and the instruction that breaks it.
 pub struct BrokenBody {
     pub number: u8,
     pub instruction: usize,
@@ -38,16 +38,17 @@ fn together(mut first: Type, second: Type) -> Type {
 
 /// The lowest method whose body breaks a rule.
 pub fn first_broken_body(bundle: &Bundle, matrix: &Matrix) -> Option<(usize, BrokenBody)> {
-    bundle.methods.iter().enumerate().find_map(|(number, method)| {
-        let broken = broken_body(bundle, matrix, method)?;
+    (0..bundle.methods.len()).find_map(|number| {
+        let broken = broken_body(bundle, matrix, number)?;
         Some((number, broken))
     })
 }
 
-fn broken_body(bundle: &Bundle, matrix: &Matrix, method: &Method) -> Option<BrokenBody> {
+fn broken_body(bundle: &Bundle, matrix: &Matrix, number: usize) -> Option<BrokenBody> {
+    let method = &bundle.methods[number];
     let mut stack: Vec<Type> = Vec::new();
     for (at, &instruction) in method.body.iter().enumerate() {
-        match typed(bundle, matrix, method, &mut stack, instruction) {
+        match typed(bundle, matrix, number, &mut stack, instruction) {
             Ok(pushed) => stack.push(pushed),
             Err(number) => return Some(BrokenBody { number, instruction: at }),
         }
@@ -60,20 +61,17 @@ fn broken_body(bundle: &Bundle, matrix: &Matrix, method: &Method) -> Option<Brok
     }
 }
 
-/// The type that an instruction pushes. A send takes its arguments' types off the stack.
+/// The type that an instruction of a method pushes. A send takes its arguments' types off the stack; a resend takes nothing.
 fn typed(
     bundle: &Bundle,
     matrix: &Matrix,
-    method: &Method,
+    number: usize,
     stack: &mut Vec<Type>,
     instruction: Instruction,
 ) -> Result<Type, u8> {
+    let method = &bundle.methods[number];
     match instruction {
-        Instruction::Arg(place) => {
-            let specialiser = of_class(matrix, method.specialisers[place]);
-            let declared = of_class(matrix, method.declared[place]);
-            Ok(together(specialiser, declared))
-        }
+        Instruction::Arg(place) => Ok(of_argument(matrix, method, place)),
         Instruction::New(class) if bundle.classes[class].concrete => Ok(of_class(matrix, class)),
         Instruction::New(_) => Err(15),
         Instruction::Send(function) => {
@@ -81,5 +79,20 @@ fn typed(
             let types = stack.split_off(rest);
             of_send(bundle, matrix, function, &types).ok_or(16)
         }
+        Instruction::Resend => match dispatch::overridden(bundle, matrix, number) {
+            Found::None => Err(25),
+            Found::Rivals(..) => Err(26),
+            Found::One(target) => {
+                let target = &bundle.methods[target];
+                let places = bundle.functions[method.function];
+                let held = (0..places).all(|place| of_argument(matrix, method, place)[target.declared[place]]);
+                held.then(|| of_class(matrix, target.result)).ok_or(27)
+            }
+        },
     }
+}
+
+/// What a body may rely on of the argument at a place: it is under the specialiser and under the declared class.
+fn of_argument(matrix: &Matrix, method: &Method, place: usize) -> Type {
+    together(of_class(matrix, method.specialisers[place]), of_class(matrix, method.declared[place]))
 }

@@ -1,7 +1,7 @@
 //! The worked cases of the rules.
 
-use builder::{chart_3, chart_4, chart_5, looping, three_rivals, widest_chart, Parts, NEW};
-use plain::{Reply, LINE, ROW, SCRATCH, TEXT};
+use builder::{chart_3, chart_4, chart_5, looping, three_rivals, widest_chart, Parts, ARG, NEW, RESEND, SEND};
+use plain::{Reply, Resends, LINE, ROW, SCRATCH, TEXT};
 
 fn reply(number: u8, named: &[u64]) -> Reply {
     let mut values = [0; 8];
@@ -240,6 +240,125 @@ fn runs() {
     assert_eq!(ran(&looping(), [0; 3], 32), reply(0, &[2, 0, 0, 0, 0, 0, 0, 31]));
 }
 
+/// The chart with four methods, one of which has this body. Methods 0 and 1 override 2 alone, and 3 overrides all of these.
+fn chart_with(method: usize, body: &[[u8; 2]]) -> Parts {
+    let mut parts = chart_4();
+    parts.methods[method].body = body.to_vec();
+    parts
+}
+
+/// The reply of a run with these steps.
+fn after(steps: u64, number: u8, named: &[u64]) -> Reply {
+    let mut reply = reply(number, named);
+    reply.values[7] = steps;
+    reply
+}
+
+#[test]
+fn checked_resends() {
+    let resend = [RESEND, 0];
+    assert_eq!(checked(&chart_with(0, &[resend])), reply(0, &[]));
+    assert_eq!(checked(&chart_with(2, &[resend])), reply(25, &[2, 0]));
+    assert_eq!(checked(&chart_with(2, &[[NEW, 6], resend])), reply(25, &[2, 1]));
+    assert_eq!(checked(&chart_with(3, &[resend])), reply(26, &[3, 0]));
+    // The target gives class 6, and the method is to give 7.
+    assert_eq!(checked(&chart_with(1, &[resend])), reply(17, &[1, 1]));
+    // It takes nothing off the stack.
+    assert_eq!(checked(&chart_with(0, &[[ARG, 0], resend])), reply(14, &[0, 2]));
+    assert_eq!(checked(&chart_with(0, &[resend, resend])), reply(14, &[0, 2]));
+    // Without arguments every other method would be a twin.
+    let mut parts = looping();
+    parts.methods[0].body = vec![resend];
+    assert_eq!(checked(&parts), reply(25, &[0, 0]));
+    // Coverage comes first.
+    parts.methods.clear();
+    assert_eq!(checked(&parts), reply(10, &[0, 0, 0, 0, 0]));
+    for wrong in [[RESEND, 1], [RESEND, 255], [4, 0]] {
+        assert_eq!(checked(&chart_with(1, &[[NEW, 7], wrong])), reply(9, &[1]), "{wrong:?}");
+    }
+}
+
+/// What the target declares has to be in the type that the argument has, by its specialiser or by its declared class.
+#[test]
+fn declared_classes_of_a_target() {
+    let mut parts = chart_with(1, &[[RESEND, 0]]);
+    parts.signatures.clear();
+    parts.methods[1].result = 6;
+    assert_eq!(checked(&parts), reply(0, &[]));
+    parts.methods[2].declared = [1, 4, 0];
+    assert_eq!(checked(&parts), reply(27, &[1, 0]));
+    parts.methods[1].declared = [2, 4, 0];
+    assert_eq!(checked(&parts), reply(0, &[]));
+    // A run goes by the classes of the arguments alone.
+    parts.methods[1].declared = [2, 3, 0];
+    assert_eq!(ran(&parts, [2, 3, 0], 9), after(0, 27, &[1, 0]));
+    parts.methods.retain(|method| method.specialisers[1] == 3);
+    assert_eq!(ran(&parts, [2, 4, 0], 9), after(2, 0, &[0, 6]));
+}
+
+#[test]
+fn runs_of_resends() {
+    let resend = [RESEND, 0];
+    assert_eq!(ran(&chart_with(0, &[resend]), [1, 4, 0], 0), after(0, 0, &[1]));
+    assert_eq!(ran(&chart_with(0, &[resend]), [1, 4, 0], 1), after(1, 0, &[1]));
+    assert_eq!(ran(&chart_with(0, &[resend]), [1, 4, 0], 2), after(2, 0, &[0, 6]));
+    assert_eq!(ran(&chart_with(2, &[[NEW, 6], resend]), [1, 3, 0], 9), after(1, 25, &[2, 1]));
+    assert_eq!(ran(&chart_with(2, &[[NEW, 6], resend]), [1, 3, 0], 1), after(1, 0, &[1]));
+    assert_eq!(ran(&chart_with(3, &[resend]), [2, 4, 0], 9), after(0, 26, &[3, 0]));
+    // The target gets the arguments as they are, not what is on the stack.
+    let mut parts = chart_with(0, &[[NEW, 7], resend]);
+    parts.methods[2].body = vec![[ARG, 1]];
+    assert_eq!(ran(&parts, [1, 4, 0], 9), after(3, 14, &[0, 2]));
+    parts.methods[0].body.remove(0);
+    assert_eq!(ran(&parts, [1, 4, 0], 9), after(2, 0, &[0, 4]));
+}
+
+/// Classes in a line, with a method for each that resends, but for the first, which has its argument as value. The last class
+/// stands beside the line.
+fn line(length: u8) -> Parts {
+    let mut parts = Parts::default();
+    let function = parts.function(1);
+    parts.signature(function, [0; 3], 0);
+    for number in 0..length {
+        let (parents, body) = if number == 0 { (vec![], [ARG, 0]) } else { (vec![number - 1], [RESEND, 0]) };
+        parts.class(true, &parents);
+        parts.method(function, [number, 0, 0], 0, &[body]);
+    }
+    parts.class(true, &[0]);
+    parts
+}
+
+/// Each resends from its own method, one frame on the other; Spent comes first, and Deep last.
+#[test]
+fn lines_of_resends() {
+    assert_eq!(checked(&line(33)), reply(0, &[]));
+    assert_eq!(ran(&line(33), [31, 0, 0], 99), after(32, 0, &[0, 31]));
+    assert_eq!(ran(&line(33), [32, 0, 0], 31), after(31, 0, &[1]));
+    assert_eq!(ran(&line(33), [32, 0, 0], 32), after(31, 0, &[2]));
+    let mut parts = line(33);
+    parts.methods[0].declared = [33, 0, 0];
+    assert_eq!(ran(&parts, [32, 0, 0], 99), after(31, 27, &[1, 0]));
+    assert_eq!(ran(&parts, [32, 0, 0], 31), after(31, 0, &[1]));
+    parts.methods.remove(0);
+    assert_eq!(ran(&parts, [32, 0, 0], 99), after(31, 25, &[0, 0]));
+    // The line begins anew where it ends, after two resends and a send of three frames.
+    let mut parts = line(3);
+    parts.methods[0].body.push([SEND, 0]);
+    assert_eq!(checked(&parts), reply(0, &[]));
+    assert_eq!(ran(&parts, [2, 0, 0], 99), after(41, 0, &[2]));
+}
+
+#[test]
+fn counted_resends() {
+    let counted = |parts: &Parts, class, count| plain::resends(&parts.bytes(), 0, [class, 0, 0], count);
+    for (count, made, ended_in) in [(0, 0, Some(1)), (1, 1, Some(2)), (2, 2, None), (3, 2, None)] {
+        assert_eq!(counted(&line(3), 2, count), Some(Resends { made, ended_in }), "{count}");
+    }
+    assert_eq!(counted(&line(33), 32, 99), Some(Resends { made: 31, ended_in: Some(32) }));
+    assert_eq!(counted(&line(3), 0, 1), Some(Resends { made: 0, ended_in: None }));
+    assert_eq!(counted(&line(3), 4, 1), None);
+}
+
 #[test]
 fn send_types() {
     let mut row = [9; ROW + 1];
@@ -276,6 +395,11 @@ fn listings() {
     assert_eq!(plain::listing(&bundle, &mut text), reply(0, &[expected.len() as u64]));
     assert_eq!(text[..expected.len()], expected[..]);
     assert!(text[expected.len()..].iter().all(|&byte| byte == 9));
+    let expected_2 = b"classes 8 functions 1 signatures 1 methods 4\nrefused 25 method 2 at 1\n";
+    let mut text_2 = [9; TEXT];
+    let broken = chart_with(2, &[[NEW, 6], [RESEND, 0]]).bytes();
+    assert_eq!(plain::listing(&broken, &mut text_2), reply(0, &[expected_2.len() as u64]));
+    assert_eq!(text_2[..expected_2.len()], expected_2[..]);
     let mut short = [9; 90];
     assert_eq!(expected.len(), short.len() + 1);
     assert_eq!(plain::listing(&bundle, &mut short), reply(20, &[]));

@@ -1,36 +1,23 @@
--- `dispatch::lookup::lookup` meets its contract: it selects from the applicable methods.
+-- `dispatch::lookup::lookup` meets its contract: no method has the count for its number, so that none is left out.
 -- Assumes nothing.
-use native.Mathlib.Omega.{arith}
-use mathlib.Core.Path.{sym, ap, _∙_}
-use lib.Seq.{length-take-le}
 use borrow.Author.Needs.{needs}
+use mathlib.Core.Path.{ap, _∙_}
 use Rattle.rules.specs.Model.{modelOf}
 use Rattle.rules.specs.Lookup as rules
-use Rattle.dispatch.proofs.Listed.{applicable-listed}
+use Rattle.layout.proofs.Opened.{counts-of}
+use Rattle.dispatch.specs.Listed.{applicableBut}
+use Rattle.dispatch.proofs.Listed.{all-applicable}
 use Rattle.dispatch.proofs.lookup.lookup.Statement.{statement}
 use Rattle.dispatch.proofs.lookup.lookup.Tie as tie
-
-array-share-prefix-list : tie.Need-array-share-prefix-list
-array-share-prefix-list c = c .before .applicable .ensures .room
-
-select-requires : tie.Need-select-requires
-select-requires c κs =
-    let p = c .before .before .before .before .before .before .before .before .pre in
-    (p .0, record { arity = p .1 .1 .arity; methods = rw (c .before .before .applicable .ensures .holds) (applicable-listed _ _ _) })
 
 returns : tie.Need-returns
 unfolding rules.lookup
 returns c =
-    let a = c .before .before .before .before .before .before .before .before .before .args in
-    c .select .ensures ∙ ap (rules.select (modelOf (a .bytes .now))) (c .before .before .before .applicable .ensures .holds)
+    let s = c .before .before .before .before .before in
+    let M = modelOf (s .args .bytes .now) in
+    c .find .ensures
+    ∙ ap (rules.select M)
+    (ap (applicableBut M (s .args .f) (s .args .args .now)) (counts-of (s .pre .0 .opened) .methods) ∙ all-applicable M (s .args .f) (s .args .args .now))
 
 pub lookup-spec : {M : Type 1} → statement M
-lookup-spec =
-    tie.close
-    (tie.spec
-    (λ c. search needs)
-    (λ c κs. let p = c .before .before .before .before .before .pre in (p .0, (p .1 .0, (p .1 .1, omega arith))))
-    array-share-prefix-list
-    (λ c. sym (length-take-le _ _ (array-share-prefix-list (c .before))))
-    select-requires
-    returns)
+lookup-spec = tie.close (tie.spec (λ c κs. search needs) returns)

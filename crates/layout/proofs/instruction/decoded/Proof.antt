@@ -9,12 +9,13 @@ use Rattle.layout.specs.Instruction.{instr}
 use Rattle.layout.proofs.instruction.decoded.Statement.{statement}
 use Rattle.layout.proofs.instruction.decoded.Tie as tie
 
-decode-other : (operation operand : ℕ) → 2 < operation → arg places ≡ decode operation operand
+decode-other : (operation operand : ℕ) → 3 < operation → arg places ≡ decode operation operand
 unfolding decode
 decode-other zero operand h = absurd (omega arith)
 decode-other (suc zero) operand h = absurd (omega arith)
 decode-other (suc (suc zero)) operand h = absurd (omega arith)
-decode-other (suc (suc (suc n))) operand h = refl
+decode-other (suc (suc (suc zero))) operand h = absurd (omega arith)
+decode-other (suc (suc (suc (suc n)))) operand h = refl
 
 returns : tie.Need-returns
 unfolding instr decode
@@ -29,8 +30,12 @@ unfolding instr decode
 returns-3 c = let is : c .before .args .operation ≡ 2 = omega arith in rw is
 
 returns-4 : tie.Need-returns-4
+unfolding instr decode
+returns-4 c = let is : c .before .args .operation ≡ 3 = omega arith in rw is
+
+returns-5 : tie.Need-returns-5
 unfolding instr
-returns-4 c = decode-other (c .before .args .operation) (c .before .args .operand) (omega arith)
+returns-5 c = decode-other (c .before .args .operation) (c .before .args .operand) (omega arith)
 
 pub decoded-spec : {M : Type 1} → statement M
-decoded-spec = tie.close (tie.spec returns returns-2 returns-3 returns-4)
+decoded-spec = tie.close (tie.spec returns returns-2 returns-3 returns-4 returns-5)

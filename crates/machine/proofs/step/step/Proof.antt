@@ -82,6 +82,10 @@ returns-3 : tie.Need-returns-3
 unfolding instr
 returns-3 c = steps-as (c .before .before .before .before .send .ensures) (next-turn (c .before .before .before .before .before .before .before .before .before .before) _ (c .before .before .before .before .before .before .before .before .i3 .given .1))
 
+returns-4 : tie.Need-returns-4
+unfolding instr
+returns-4 c = steps-as (c .before .before .before .before .resend .ensures) (next-turn (c .before .before .before .before .before .before .before .before .before) _ (c .before .before .before .before .before .before .before .enum-told .given .1))
+
 pub step-spec : {M : Type 1} → statement M
 step-spec =
     tie.close
@@ -96,6 +100,8 @@ step-spec =
     (λ c. search needs)
     send-requires
     (λ c. search needs)
+    (λ c κs. let p = c .before .before .before .before .before .before .before .before .before .before .before .before .before .before .pre in (p .0, (p .1 .0, p .1 .1)))
+    (λ c. search needs)
     (λ c. search needs)
     returns
     (λ c. search needs)
@@ -103,4 +109,7 @@ step-spec =
     returns-2
     (λ c. search needs)
     (λ c. search needs)
-    returns-3)
+    returns-3
+    (λ c. search needs)
+    (λ c. search needs)
+    returns-4)

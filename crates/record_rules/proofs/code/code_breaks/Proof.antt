@@ -16,7 +16,7 @@ arity-requires c κs =
 pairs-break-requires : tie.Need-pairs-break-requires
 pairs-break-requires c κs =
     let s = c .before .before .before .before .before .before .before in (
-      record { long = refl; others = refl },
+      record { long = refl; resends = refl; others = refl },
       omega (arith, body-fits (s .args .bytes .now) (s .args .m) (s .pre .1 .1), s .pre .0 .code-end, s .pre .0 .tables .code-len),
     )
 
