@@ -98,10 +98,6 @@ SAMPLES = {
     "chart-3": bundle(CHART, [2], [(0, [1, 3], 5)], CHART_METHODS[:3]),
     "chart-4": bundle(CHART, [2], [(0, [1, 3], 5)], CHART_METHODS),
     "chart-5": bundle(CHART, [2], [(0, [1, 3], 5), (0, [2, 3], 7)], CHART_METHODS),
-    # The classes of chart-4 in reading order, four of them before their parents: 1 and 2 have changed places, 3 and 4 too, and 5 comes after 6 and 7.
-    "late-parent": bundle(
-        [(ABSTRACT, []), (CONCRETE, [2]), (CONCRETE, [0]), (CONCRETE, [4]), (CONCRETE, [0]), (CONCRETE, [7]), (CONCRETE, [7]), (ABSTRACT, [0])],
-        [2], [(0, [2, 4], 7)], [(0, args, args, result, [(NEW, result)]) for args, result in [([2, 3], 5), ([1, 4], 6), ([2, 4], 5), ([1, 3], 6)]]),
     "loop": bundle([(CONCRETE, [])], [0], [(0, [], 0)], [(0, [], [], 0, [(SEND, 0)])]),
     "one-class": bundle([(CONCRETE, [])]),
     # The signature's own class is abstract and has no method of its own; only the class under it can be an argument.
@@ -128,10 +124,7 @@ SAMPLES = {
     # The byte after the class belongs to no section.
     "directory-gap": struct.pack("<12H", 24, 6, *[31, 0] * 5) + CLASS + b"\0",
     "empty-sections": bundle([]),
-    "absent-parent": bundle(ALONE + [(CONCRETE, [2])]),
     "own-parent": bundle(ALONE + [(CONCRETE, [1])]),
-    # Classes 1 and 2 lead to 4 and 5, each of which is the other's parent.
-    "class-cycle": bundle([(CONCRETE, above) for above in [[], [4], [5], [0], [5], [4]]]),
     "four-arguments": bundle(ALONE, [3, 4]),
     "absent-result": bundle(ALONE, [0], [(0, [], 1)]),
     "empty-body": bundle(ALONE, [0], [(0, [], 0)], [(0, [], [], 0, [])]),
@@ -211,7 +204,7 @@ FURTHER = {
 }
 
 # The samples whose charts, of function 0, are among the files.
-CHARTED = ["chart-3", "chart-4", "chart-5", "late-parent", "resend", "no-concrete-class", "102-methods"]
+CHARTED = ["chart-3", "chart-4", "chart-5", "resend", "no-concrete-class", "102-methods"]
 
 # What each sample is, and the lines that the listing program has to print for it. They are written down from the rules and not worked out by any
 # program.
@@ -225,9 +218,6 @@ SHOWN = {
     "chart-5": (
         "accepted: a second, narrower signature of the same function",
         ["classes 8 functions 1 signatures 2 methods 4", "accepted"]),
-    "late-parent": (
-        "accepted: the classes of chart-4 in another order, with heirs before their parents",
-        ["classes 8 functions 1 signatures 1 methods 4", "accepted"]),
     "loop": (
         "accepted: a method that sends its own function",
         ["classes 1 functions 1 signatures 1 methods 1", "accepted"]),
@@ -276,8 +266,8 @@ SHOWN = {
     "129-classes": (
         "refused by 3: one class too many",
         ["refused 3"]),
-    "absent-parent": (
-        "refused by 4: the parent of class 1 is not there",
+    "own-parent": (
+        "refused by 4: class 1 is its own parent",
         ["refused 4 record 1"]),
     "two-roots": (
         "refused by 4: class 1 has no parent",
@@ -372,12 +362,6 @@ SHOWN = {
     "narrow-target": (
         "refused by 27: the method resent to declares a class that does not hold the argument",
         ["classes 3 functions 1 signatures 1 methods 2", "refused 27 method 1 at 0"]),
-    "own-parent": (
-        "refused by 28: class 1 is its own parent",
-        ["refused 28 record 1"]),
-    "class-cycle": (
-        "refused by 28: classes 4 and 5 are each other's parents; the lower classes 1 and 2 lead to them, but are on no cycle",
-        ["refused 28 record 4"]),
 }
 
 

@@ -11,17 +11,17 @@
  * include/example.c is a program to begin with.
  *
  * A function returns CURIUMTOAD_OK where the call answers, else the number of the refusal or of the run's ending. Each call writes all eight values;
- * those that are not named below are 0. Numbers are tried in the order 1 to 4, 28, 5 to 9, 19, 20, 18, then the rest; those of a chart, 21, 22 and 23, in
- * this order, and those of a resend, 25, 26 and 27, likewise.
+ * those that are not named below are 0. Numbers are tried in the order 1 to 9, 19, 20, 18, then the rest; those of a chart, 21, 22 and 23, in this order,
+ * and those of a resend, 25, 26 and 27, likewise.
  *
- * bundle is the bundle's bytes, and size their count; it is never written. Class 0 has no parent; the other classes come in any order, heirs before their
- * parents too. A function, a class, a signature or a method is its number in the bundle; a function of fewer than three arguments has 0 at its unused places.
- * Numbers that are not there are refused by 18, the line of a chart by 22, so any may be passed.
+ * bundle is the bundle's bytes, and size their count; it is never written. A function, a class, a signature or a method is its number in the bundle; a
+ * function of fewer than three arguments has 0 at its unused places. Numbers that are not there are refused by 18, the line of a chart by 22, so any may be
+ * passed.
  *
  * scratch holds at least CURIUMTOAD_SCRATCH_BYTES, row at least CURIUMTOAD_ROW_BYTES; with fewer the call is refused, by 19 or 20. What they hold before a
- * call does not matter. 1 to 9, 19 and 28 leave the scratch as it was; else it has a bit for each a and b below 128, which is 1 where class a is under
- * class b, and 0 otherwise: bit b % 8 of byte 16 * a + b / 8, where bit 0 is the lowest. Bytes past the first 2,048, and past the first 128 of the row, are
- * never touched.
+ * call does not matter. 1 to 9 and 19 leave the scratch as it was; else it has a bit for each a and b below 128, which is 1 where class a is under class b,
+ * and 0 otherwise: bit b % 8 of byte 16 * a + b / 8, where bit 0 is the lowest. Bytes past the first 2,048, and past the first 128 of the row, are never
+ * touched.
  *
  * text is the buffer of a listing or of a line of a chart; where it is too short for that the call is refused, by 20 or 23. Every refusal leaves it as it
  * was, and so are the bytes after what is written, which no zero byte ends.
@@ -44,7 +44,7 @@
 
 /* Raised by each change of the bundle's layout or of the operations of its code, of what scratch, row or values hold or how large they are, of the numbers
  * that a function returns, or of its arguments. */
-#define CURIUMTOAD_VERSION 6
+#define CURIUMTOAD_VERSION 5
 
 #define CURIUMTOAD_BUNDLE_BYTES 65535  /* the most that a bundle may have */
 #define CURIUMTOAD_SCRATCH_BYTES 2048
@@ -62,7 +62,7 @@ extern "C" {
 enum curiumtoad_number {
     CURIUMTOAD_OK = 0,
 
-    /* The bundle does not open; see 28 too. 1 to 3 have no values, 4 to 9 the record. */
+    /* The bundle does not open. 1 to 3 have no values, 4 to 9 the record. */
     CURIUMTOAD_BAD_LENGTH = 1,       /* fewer than 24 bytes, or more than CURIUMTOAD_BUNDLE_BYTES */
     CURIUMTOAD_BAD_DIRECTORY = 2,    /* sections that do not follow each other, or are not whole records */
     CURIUMTOAD_BAD_COUNTS = 3,       /* more records of a kind than there may be, or no class */
@@ -98,10 +98,7 @@ enum curiumtoad_number {
      * whose specialisers is above the method's own. These have the method that resends, and the instruction. */
     CURIUMTOAD_NO_OVERRIDDEN = 25,   /* the method overrides no other */
     CURIUMTOAD_AMBIGUOUS_RESEND = 26, /* none of those that it overrides leads */
-    CURIUMTOAD_NARROW_TARGET = 27,   /* a declared class of the one that leads does not hold the argument */
-
-    /* The bundle does not open. This has the record, and is tried when no class has broken its own rule, between 4 and 5. */
-    CURIUMTOAD_CLASS_CYCLE = 28      /* a class that inherits from itself, by one step or more; with the lowest such class */
+    CURIUMTOAD_NARROW_TARGET = 27    /* a declared class of the one that leads does not hold the argument */
 };
 
 /* Which of the values holds what. */
@@ -136,7 +133,7 @@ enum curiumtoad_place {
     CURIUMTOAD_AT_CLASS = 1,
     CURIUMTOAD_AT_STEPS = 7,
 
-    /* 4 to 9 and 28 */
+    /* 4 to 9 */
     CURIUMTOAD_AT_RECORD = 0,
 
     /* 10 to 12 from lookup and run; of the two rivals of 11 METHOD is the higher, RIVAL the lower */
@@ -194,49 +191,49 @@ enum curiumtoad_reason {
 /* The version that the library was built with. Where it is not CURIUMTOAD_VERSION, the caller was compiled with another header: make no other call. */
 uint32_t curiumtoad_version(void);
 
-/* Opening. 0: the counts of classes, functions, signatures and methods. Else 1 to 9 and 28. */
+/* Opening. 0: the counts of classes, functions, signatures and methods. Else 1 to 9. */
 uint8_t curiumtoad_open(const uint8_t *bundle, size_t size, uint64_t *values);
 
-/* Ancestry. 0: how class a stands to class b, the same, a proper heir, or neither. Else 1 to 9, 18, 19, 28. */
+/* Ancestry. 0: how class a stands to class b, the same, a proper heir, or neither. Else 1 to 9, 18, 19. */
 uint8_t curiumtoad_ancestry(const uint8_t *bundle, size_t size, uint8_t *scratch, size_t scratch_size,
                             uint64_t a, uint64_t b, uint64_t *values);
 
 /* Lookup, abstract classes too. 0: the method that the send finds, and whether it is exact: its specialiser at each place that the function uses is the
- * class of the send there, so that a method without arguments always is. Declared classes play no part. Else 1 to 11, 18, 19, 28. */
+ * class of the send there, so that a method without arguments always is. Declared classes play no part. Else 1 to 11, 18, 19. */
 uint8_t curiumtoad_lookup(const uint8_t *bundle, size_t size, uint8_t *scratch, size_t scratch_size,
                           uint64_t function, uint64_t a0, uint64_t a1, uint64_t a2, uint64_t *values);
 
 /* A send whose arguments are known only roughly: each is under the upper class at its place, a0, a1 or a2, which may be abstract. Every tuple counts that has a
  * concrete class under the upper one at each place, the upper one itself where it is concrete; a function of no arguments has the empty tuple alone. 0: by
  * what a lookup of each tuple finds, one method, may fail, or several; signatures and declared classes play no part. Where the upper classes give way to
- * classes under them and the call still answers, one stays that method, and several becomes several or one. Else 1 to 9, 18, 19, 24, 28. */
+ * classes under them and the call still answers, one stays that method, and several becomes several or one. Else 1 to 9, 18, 19, 24. */
 uint8_t curiumtoad_rough(const uint8_t *bundle, size_t size, uint8_t *scratch, size_t scratch_size,
                          uint64_t function, uint64_t a0, uint64_t a1, uint64_t a2, uint64_t *values);
 
 /* The static type of a send with arguments of these classes. 0: byte b of the first 128 of the row is 1 where class b is in the type, else 0.
- * Else 1 to 9, 16, 18, 19, 20, 28, and the row is as it was. */
+ * Else 1 to 9, 16, 18, 19, 20, and the row is as it was. */
 uint8_t curiumtoad_send_type(const uint8_t *bundle, size_t size, uint8_t *scratch, size_t scratch_size,
                              uint8_t *row, size_t row_size,
                              uint64_t function, uint64_t a0, uint64_t a1, uint64_t a2, uint64_t *values);
 
-/* The check of the whole bundle. 0: accepted. Else 1 to 17, 19, 25 to 28: the lowest broken signature with its first broken tuple, by class
+/* The check of the whole bundle. 0: accepted. Else 1 to 17, 19, 25 to 27: the lowest broken signature with its first broken tuple, by class
  * numbers with the leftmost argument turning slowest, or with none the lowest broken method and its first broken instruction. */
 uint8_t curiumtoad_check(const uint8_t *bundle, size_t size, uint8_t *scratch, size_t scratch_size, uint64_t *values);
 
-/* The coverage rule for one signature and a tuple of concrete classes that it covers. 0: it holds. Else 1 to 13, 18, 19, 28. */
+/* The coverage rule for one signature and a tuple of concrete classes that it covers. 0: it holds. Else 1 to 13, 18, 19. */
 uint8_t curiumtoad_witness(const uint8_t *bundle, size_t size, uint8_t *scratch, size_t scratch_size,
                            uint64_t signature, uint64_t a0, uint64_t a1, uint64_t a2, uint64_t *values);
 
-/* The code of a method. 0: where it begins, counted from bundle, and its bytes, two to an instruction. Else 1 to 9, 18, 28. */
+/* The code of a method. 0: where it begins, counted from bundle, and its bytes, two to an instruction. Else 1 to 9, 18. */
 uint8_t curiumtoad_body(const uint8_t *bundle, size_t size, uint64_t method, uint64_t *values);
 
 /* A run of a send with concrete classes, of at most count steps. The bundle has to open, not to be accepted. 0: the ending, a value, Spent or Deep.
- * 10, 11, 12, 14, 15, 25 to 27: what stopped it. Each of these has the steps made. Else 1 to 9, 18, 19, 28, without steps. */
+ * 10, 11, 12, 14, 15, 25 to 27: what stopped it. Each of these has the steps made. Else 1 to 9, 18, 19, without steps. */
 uint8_t curiumtoad_run(const uint8_t *bundle, size_t size, uint8_t *scratch, size_t scratch_size,
                        uint64_t function, uint64_t a0, uint64_t a1, uint64_t a2, uint32_t count, uint64_t *values);
 
 /* The same for an accepted bundle and a send that some signature covers, where nothing stops a run. 0: as for a run. A call that is wrong: 1 to 9, 18,
- * 19, 28. Then, a bundle that is not accepted: the number and values of the check. Then, a send that no signature covers: 18 with the reason. */
+ * 19. Then, a bundle that is not accepted: the number and values of the check. Then, a send that no signature covers: 18 with the reason. */
 uint8_t curiumtoad_run_accepted(const uint8_t *bundle, size_t size, uint8_t *scratch, size_t scratch_size,
                                 uint64_t function, uint64_t a0, uint64_t a1, uint64_t a2, uint32_t count, uint64_t *values);
 
@@ -248,7 +245,7 @@ uint8_t curiumtoad_listing(const uint8_t *bundle, size_t size, uint8_t *text, si
  * has the lines 0 to n, each of 5 + 5 * n bytes, newline included: a field of four places, then n times a blank and such a field, blanks in front of what is
  * shorter. Line 0 is the head, an empty field and the classes by rising number. Line k shows the k-th class, counted from 1, then for each class as second
  * argument beside it the method that a lookup finds, - for 10, * for 11. 0: the length of the line, which is at the start of the buffer. Else 1 to 9, 18, 19,
- * 21, 22, 23, 28. */
+ * 21, 22, 23. */
 uint8_t curiumtoad_chart(const uint8_t *bundle, size_t size, uint8_t *scratch, size_t scratch_size,
                          uint8_t *text, size_t text_size, uint64_t function, uint64_t line, uint64_t *values);
 

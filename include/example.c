@@ -61,7 +61,7 @@ static int report(int number, const uint64_t *values)
         printf("no bundle: %d\n", number);
         return BUNDLE_REFUSED;
     case CURIUMTOAD_BAD_CLASS: case CURIUMTOAD_BAD_FUNCTION: case CURIUMTOAD_BAD_SIGNATURE:
-    case CURIUMTOAD_BAD_METHOD: case CURIUMTOAD_TWIN_METHOD: case CURIUMTOAD_BAD_CODE: case CURIUMTOAD_CLASS_CYCLE:
+    case CURIUMTOAD_BAD_METHOD: case CURIUMTOAD_TWIN_METHOD: case CURIUMTOAD_BAD_CODE:
         printf("no bundle: %d, record %" PRIu64 "\n", number, values[CURIUMTOAD_AT_RECORD]);
         return BUNDLE_REFUSED;
     case CURIUMTOAD_NO_METHOD: case CURIUMTOAD_AMBIGUOUS: case CURIUMTOAD_NARROW_DECLARED: case CURIUMTOAD_WIDE_RESULT:

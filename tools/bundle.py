@@ -13,7 +13,7 @@ the number that says why is the answer, and is printed.
 A text has one declaration or instruction a line, and # begins a comment:
 
     abstract class Any                          # a class is concrete where it is not called abstract
-    class Session under Any                     # the first class has no parent, every other one has some, above or below it
+    class Session under Any                     # the first class has no parent; every other one stands after its parents
     class Bench under Any
     function arm(session, bench)                # the names of the arguments
     signature arm(Session, Bench) -> Any
@@ -32,7 +32,7 @@ import sys
 from typing import NamedTuple
 
 sys.dont_write_bytecode = True
-from rules import AMBIGUOUS_RESEND, CYCLE, MARKS, MATRIX, NO_OVERRIDDEN, asked, chart_cells, chart_lines, chart_text, resend  # noqa: E402
+from rules import AMBIGUOUS_RESEND, MARKS, MATRIX, NO_OVERRIDDEN, asked, chart_cells, chart_lines, chart_text, resend  # noqa: E402
 
 DIRECTORY, LONGEST = 24, 65535
 CLASSES, FUNCTIONS, SIGNATURES, METHODS, PLACES, INSTRUCTIONS = 128, 64, 256, 512, 3, 64
@@ -155,22 +155,9 @@ def cut(section, spans, number):
 
 def read_classes(found, parents):
     for k, ((kind, zero, *_), above) in enumerate(zip(found, cut(parents, [own[2:] for own in found], 4))):
-        rising = all(lower < higher for lower, higher in itertools.pairwise([*above, len(found)]))
+        rising = all(lower < higher for lower, higher in itertools.pairwise([*above, k]))
         hold(kind <= 1 and zero == 0 and rising and (len(above) > 0) == (k > 0), 4, k)
         yield Class(kind == 1, list(above))
-
-
-def way_round(classes, k):
-    """the shortest way from a class to itself, each step from a child to a parent, with that class at both ends; or nothing"""
-    ways, reached = [[k]], set()
-    for way in ways:
-        for parent in classes[way[-1]].parents:
-            if parent == k:
-                return [*way, k]
-            if parent not in reached:
-                reached.add(parent)
-                ways.append([*way, parent])
-    return None
 
 
 def read_places(classes, functions, rule, function, result, *triples):
@@ -206,8 +193,6 @@ def read(data):
     hold(class_part and all(len(part) <= limit for part, limit in zip(found, [CLASSES, FUNCTIONS, SIGNATURES, METHODS])), 3)
     found_classes, functions, found_signatures, found_methods = found
     classes = list(read_classes(found_classes, parents))
-    for k in range(len(classes)):
-        hold(not way_round(classes, k), CYCLE, k)
     for k, count in enumerate(functions):
         hold(count <= PLACES, 5, k)
     signatures = list(read_signatures(found_signatures, classes, functions))
@@ -393,10 +378,11 @@ class Numbered:
         above = [self.class_number(line, parent) for parent in parents]
         if len(set(above)) < len(above):
             line.refuse("two parents are one class")
+        for parent in above:
+            if parent >= k:
+                line.refuse(f"class {name} does not stand after its parent {parents[above.index(parent)]}")
         if k and not above:
             line.refuse(f"class {name} has no parent, which only the first class may lack")
-        if above and not k:
-            line.refuse(f"class {name} has a parent, which the first class may not have")
         # The order of parents means nothing, and the bytes have them in number order.
         return Class(concrete, sorted(above))
 
@@ -431,14 +417,6 @@ class Numbered:
         return self.arguments[function].index(word)
 
 
-def refuse_cycles(declared, classes):
-    """names the first class that inherits from itself, and those on its way, each with its line"""
-    for k, (line, name, *_) in enumerate(declared):
-        if way := way_round(classes, k):
-            passed = [f"{declared[own][1]} (line {declared[own][0].number})" for own in way[:-1]]
-            line.refuse(f"class {name} inherits from itself: {' -> '.join([*passed, name])}")
-
-
 def refuse_twins(declared, methods):
     earlier = {}
     for (line, *_), own in zip(declared, methods):
@@ -460,7 +438,6 @@ def parse(text):
     """the bundle that a text describes, and its names"""
     declarations = Declarations(text)
     numbered = Numbered(declarations)
-    refuse_cycles(declarations.classes, numbered.bundle.classes)
     refuse_twins(declarations.methods, numbered.bundle.methods)
     refuse_length(declarations.methods, numbered.bundle)
     return numbered.bundle, numbered.names
@@ -548,14 +525,13 @@ OPENING = {
     7: "the method record breaks its rule",
     8: "an earlier method of the function has the same specialisers",
     9: "an instruction has an unknown operation or a wrong operand",
-    CYCLE: "the class inherits from itself",
 }
 # The kinds of line: N is a number, and a send is a function with its argument classes.
 LISTED = [
     ("counts", r"classes (N) functions (N) signatures (N) methods (N)"),
     ("accepted", r"accepted"),
     ("whole", r"refused ([1-3])"),
-    ("record", r"refused ([4-9]|28) record (N)"),
+    ("record", r"refused ([4-9]) record (N)"),
     ("coverage", r"refused (10) signature (N) send (N(?: N)*)"),
     ("coverage", r"refused (11) signature (N) send (N(?: N)*) methods (N) (N)"),
     ("coverage", r"refused (1[23]) signature (N) send (N(?: N)*) method (N)"),
@@ -605,7 +581,7 @@ class Explained:
 
     def record(self, number, record):
         [number], [k] = number, record
-        whose = {4: self.a_class, CYCLE: self.a_class, 5: self.a_function, 6: self.a_signature}.get(number, self.a_method)
+        whose = {4: self.a_class, 5: self.a_function, 6: self.a_signature}.get(number, self.a_method)
         return f"refused: {whose(k)}: {OPENING[number]}"
 
     def a_class(self, k):

@@ -4,7 +4,7 @@ import re
 import sys
 
 from made import write
-from rules import RESEND, methods_of, opening, parent_lists, rivals, spans
+from rules import RESEND, methods_of, opening, rivals, spans
 
 
 def request_of(folder):
@@ -65,45 +65,31 @@ def exact_match(entry):
             answer["exact"] = is_exact(answer["method"], *call["lookup"])
 
 
-def opened_anew(entry, unlawful, what):
-    """answers an opening by the rules as they stand. The bytes at the places of unlawful, with which the bundle has that, were refused before"""
-    bundle = bytes.fromhex(entry["bundle"])
-    refused = bytearray(bundle)
-    for at in unlawful:
-        # Neither a kind of class nor an operation.
-        refused[at] = 255
-    now, before = opening(bundle), opening(bytes(refused))
-    if now == before:
-        return
-    if "listing" in entry or "calls" in entry:
-        stop(entry, f"only an opening can be answered anew for a bundle with {what}")
-    answer = entry["answer"]
-    if (answer["number"], answer["values"]) != before:
-        stop(entry, f"opening answers {answer!r} where {what} is refused")
-    answer["number"], answer["values"] = now
-
-
 def resend(entry):
     """Eight: operation 3 is RESEND; before, it was unknown, and number 9 named a method that has it"""
     bundle = bytes.fromhex(entry["bundle"])
+    now = opening(bundle)
     # Any other number is given before the code is looked at.
-    if opening(bundle)[0] in (0, 9):
-        at, length = spans(bundle)[5]
-        opened_anew(entry, [k for k in range(at, at + length, 2) if bundle[k] == RESEND], "operation 3")
-
-
-def reading_order(entry):
-    """Nine: a class may come before its parents; before, number 4 named a class that has a parent of its own number or a higher one"""
-    bundle = bytes.fromhex(entry["bundle"])
-    # These numbers are given before the parents are looked at.
-    if opening(bundle)[0] not in (1, 2, 3):
-        at, _ = spans(bundle)[0]
-        late = [k for k, parents in enumerate(parent_lists(bundle)) if any(parent >= k for parent in parents)]
-        opened_anew(entry, [at + 6 * k for k in late], "a parent that is not lower")
+    if now[0] not in (0, 9):
+        return
+    at, length = spans(bundle)[5]
+    unknown = bytearray(bundle)
+    for k in range(at, at + length, 2):
+        if bundle[k] == RESEND:
+            unknown[k] = 255
+    before = opening(bytes(unknown))
+    if now == before:
+        return
+    if "listing" in entry or "calls" in entry:
+        stop(entry, "only an opening can be answered anew for a bundle with operation 3")
+    answer = entry["answer"]
+    if (answer["number"], answer["values"]) != before:
+        stop(entry, f"opening answers {answer!r} where operation 3 is unknown")
+    answer["number"], answer["values"] = now
 
 
 # The requests that change answers of vectors made before them, each with what brings such an entry to its rules.
-CHANGES = {3: newest_rivals, 7: exact_match, 8: resend, 9: reading_order}
+CHANGES = {3: newest_rivals, 7: exact_match, 8: resend}
 
 
 def entries(path):

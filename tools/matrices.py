@@ -32,17 +32,13 @@ def of_each_length():
             yield make.SAMPLES["chart-4"], call._replace(scratch=scratch), answer
 
 
-# The parent of each class but 0, in hierarchies of one parent each, the last two for 128 classes.
+# The parent of each class but 0, in hierarchies of one parent each.
 PARENT = {
     "flat": lambda c: 0,
     "chain": lambda c: c - 1,
     "tree": lambda c: (c - 1) // 2,
     # Each class whose bit is the first of a byte is under the one whose bit is the last of the byte before.
     "across": lambda c: 0 if c % 8 else c - 1,
-    # Each class but the last, which is under 0, is under the next one.
-    "rising": lambda c: (c + 1) % 128,
-    # The classes in one line are 127, 1, 3, 9, 27, 81, 116 and so on to 80, 113, 85 and 0.
-    "shuffled": lambda c: {85: 0, 127: 1}.get(c, 3 * c % 127),
 }
 
 # Rows of the matrix of 128 such classes, in hexadecimal, without the zeros at their ends.
@@ -58,13 +54,6 @@ ROWS = {
         8: "0b01", 64: "8b80008000000000" + "01", 120: "4540002000000008" + "0000000000000001", 127: "8b80008000000080" + "0000000000000080"},
     "across": {
         7: "81", 8: "8101", 9: "0102", 16: "018001", 64: "01" + 6 * "00" + "8001", 120: "01" + 13 * "00" + "8001", 127: "01" + 14 * "00" + "80"},
-    "rising": {
-        0: "01", 1: 16 * "ff", 2: "fd" + 15 * "ff", 7: "81" + 15 * "ff", 8: "01" + 15 * "ff", 9: "01fe" + 14 * "ff", 63: "01" + 6 * "00" + "80" + 8 * "ff",
-        64: "01" + 7 * "00" + 8 * "ff", 119: "01" + 13 * "00" + "80ff", 120: "01" + 14 * "00" + "ff", 126: "01" + 14 * "00" + "c0",
-        127: "01" + 14 * "00" + "80"},
-    "shuffled": {
-        0: "01", 85: "01" + 9 * "00" + "20", 113: "01" + 9 * "00" + "20" + 3 * "00" + "02", 80: "01" + 9 * "00" + "21" + 3 * "00" + "02",
-        9: "f5" + 14 * "ff" + "7f", 3: "fd" + 14 * "ff" + "7f", 1: 15 * "ff" + "7f", 127: 16 * "ff"},
 }
 
 # The parents of a few classes, with the rows of all of them.
@@ -72,10 +61,6 @@ WHOLE = [
     ([[]], ["01"]),
     ([[], [0], [1], [1], [1], [2, 3, 4]], ["01", "03", "07", "0b", "13", "3f"]),
     ([[], [0], [0], [1, 2], [0], [4], [5], [3], [6, 7]], ["01", "03", "05", "0f", "11", "31", "71", "8f", "ff01"]),
-    # Classes before their parents.
-    ([[], [2], [0]], ["01", "07", "05"]),
-    ([[], [2, 3], [4], [4], [0]], ["01", "1f", "15", "19", "11"]),
-    ([[], [8], [1, 5], [0], [2, 7], [3], [3], [6], [5, 6]], ["01", "6b01", "6f01", "09", "ff01", "29", "49", "c9", "6901"]),
 ]
 
 
@@ -113,8 +98,8 @@ def at_edges(parent, count):
     bundle = make.bundle(
         single(parent, count), [1], [(0, [c], c) for c in own], [(0, [c], [c], c, [(make.ARG, 0)]) for c in own])
     above = [upwards(parent, c) for c in range(count)]
-    # Of the methods that apply to a class the one found has the nearest specialiser, which is under all the others.
-    found = [max((m for m, c in enumerate(own) if c in above[k]), key=lambda m: len(above[own[m]])) for k in range(count)]
+    # Of the methods that apply to a class the last has the nearest specialiser.
+    found = [max(m for m, c in enumerate(own) if c in above[k]) for k in range(count)]
 
     def answers():
         for scratch in [LEAST, SCRATCH]:

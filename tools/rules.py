@@ -5,9 +5,7 @@ import itertools
 
 LONGEST = 65535
 CLASSES, FUNCTIONS, SIGNATURES, METHODS, PLACES = 128, 64, 256, 512, 3
-ABSENT, SHORT, SHORT_ROW, NOT_BINARY, NO_LINE, SHORT_BUFFER, NONE_CONCRETE, NO_OVERRIDDEN, AMBIGUOUS_RESEND, NARROW_TARGET, CYCLE = range(18, 29)
-# The numbers by which a bundle does not open.
-UNOPENED = *range(1, 10), CYCLE
+ABSENT, SHORT, SHORT_ROW, NOT_BINARY, NO_LINE, SHORT_BUFFER, NONE_CONCRETE, NO_OVERRIDDEN, AMBIGUOUS_RESEND, NARROW_TARGET = range(18, 28)
 # The last of the operations.
 RESEND = 3
 # The bytes of the subclass matrix, and of each of its rows.
@@ -46,23 +44,6 @@ def lowest(number, kept):
     return next(((number, [k]) for k, keeps in enumerate(kept) if not keeps), None)
 
 
-def parent_lists(bundle):
-    """for each class the bytes that its record states as its parents, of a bundle whose directory is right"""
-    (class_at, length), (parent_at, parents) = spans(bundle)[:2]
-    return [bundle[parent_at:][:parents][word(record, 2):][:word(record, 4)] for record in records(bundle[class_at:][:length], 6)]
-
-
-def reached(parents, k):
-    """the classes to which one or more steps from a child to a parent lead from class k, also where they lead round"""
-    found, ahead = set(), [*parents[k]]
-    while ahead:
-        own = ahead.pop()
-        if own not in found:
-            found.add(own)
-            ahead += parents[own]
-    return found
-
-
 @functools.cache
 def opening(bundle):
     """the number, 0 where the bundle opens, with its values"""
@@ -76,7 +57,7 @@ def opening(bundle):
         at += length
     if at != len(bundle):
         return 2, []
-    code = sections[5]
+    parents, code = sections[1], sections[5]
     if any(len(sections[k]) % width for k, width in [(0, 6), (3, 5), (4, 12), (5, 2)]) or (code and not sections[4]):
         return 2, []
     classes, functions, signatures, methods = (records(sections[k], width) for k, width in [(0, 6), (2, 1), (3, 5), (4, 12)])
@@ -84,11 +65,9 @@ def opening(bundle):
     if not classes or any(count > limit for count, limit in zip(counts, [CLASSES, FUNCTIONS, SIGNATURES, METHODS])):
         return 3, []
 
-    parents = parent_lists(bundle)
-
     def class_kept(k, record):
-        # A list that rises to a number below the count names classes that are there.
-        rising = all(lower < higher for lower, higher in itertools.pairwise([*parents[k], len(classes)]))
+        above = parents[word(record, 2):][:word(record, 4)]
+        rising = all(lower < higher for lower, higher in itertools.pairwise([*above, k]))
         return record[0] <= 1 and record[1] == 0 and rising and (k == 0) == (word(record, 4) == 0)
 
     def places_kept(function, places):
@@ -112,12 +91,11 @@ def opening(bundle):
         limits = [functions[function][0], len(classes), len(functions), 1]
         return operation < len(limits) and operand < limits[operation]
 
-    lists = list(follow([(word(record, 2), word(record, 4)) for record in classes], len(sections[1])))
+    lists = list(follow([(word(record, 2), word(record, 4)) for record in classes], len(parents)))
     bodies = list(follow([(word(record, 8), word(record, 10)) for record in methods], len(code)))
     # Each rule is judged only where the ones before it hold, since a later one reads what an earlier one makes sure is there.
     rules = [
         lambda: lowest(4, (class_kept(k, record) and lists[k] for k, record in enumerate(classes))),
-        lambda: lowest(CYCLE, (k not in reached(parents, k) for k in range(len(classes)))),
         lambda: lowest(5, (record[0] <= PLACES for record in functions)),
         lambda: lowest(6, (signature_kept(record) for record in signatures)),
         lambda: lowest(7, (method_kept(record) and bodies[k] for k, record in enumerate(methods))),
@@ -170,8 +148,11 @@ def instruction(bundle, method, position):
 @functools.cache
 def above(bundle):
     """for each class the set of those it is under"""
-    parents = parent_lists(bundle)
-    return [{k} | reached(parents, k) for k in range(len(parents))]
+    (class_at, length), (parent_at, _) = spans(bundle)[:2]
+    sets = []
+    for k, record in enumerate(records(bundle[class_at:][:length], 6)):
+        sets.append({k}.union(*(sets[p] for p in bundle[parent_at + word(record, 2):][:word(record, 4)])))
+    return sets
 
 
 def matrix_rows(bundle):

@@ -2,7 +2,7 @@
 import sys
 from typing import NamedTuple
 
-from rules import CLASSES, MATRIX_ROW, SHORT, UNOPENED, matrix_rows, opening
+from rules import CLASSES, MATRIX_ROW, SHORT, matrix_rows, opening
 
 # The first value of a run that no number stops.
 ENDS = {"value": 0, "spent": 1, "deep": 2}
@@ -70,7 +70,7 @@ def block(*numbers):
 
 def fills(call, answer):
     """whether the call leaves the matrix in the scratch"""
-    return call.entry in SCRATCHED and answer.number not in (*UNOPENED, SHORT)
+    return call.entry in SCRATCHED and answer.number not in (*range(1, 10), SHORT)
 
 
 def call_bytes(call, answer):

@@ -22,7 +22,7 @@ from vectors import make  # noqa: E402
 ROOT = pathlib.Path(__file__).resolve().parent.parent
 SCRIPT = ROOT / "tools" / "bundle.py"
 SAMPLES = {path.stem: path.read_bytes() for path in sorted((ROOT / "bundles").glob("*.bundle"))}
-CHART, RESEND, LATE = ((ROOT / "bundles" / f"{name}.txt").read_text() for name in ["chart-3", "resend", "late-parent"])
+CHART, RESEND = ((ROOT / "bundles" / f"{name}.txt").read_text() for name in ["chart-3", "resend"])
 
 
 def listing(name):
@@ -45,11 +45,9 @@ def chart_in_documentation():
 
 def some_bundle(draw):
     """a description of any shape that opens"""
-    count = draw.choice([1, 2, 5, 12, 128])
-    # Each class but the first has parents among those before it in some order, which need not be that of the numbers.
-    order = [0, *draw.sample(range(1, count), count - 1)]
-    parents = {c: sorted(draw.sample(order[:at], draw.randint(min(at, 1), min(at, 4)))) for at, c in enumerate(order)}
-    classes = [bundle.Class(draw.random() < 0.7, parents[c]) for c in range(count)]
+    classes = [bundle.Class(draw.random() < 0.7, [])]
+    for k in range(1, draw.choice([1, 2, 5, 12, 128])):
+        classes.append(bundle.Class(draw.random() < 0.7, sorted(draw.sample(range(k), draw.randint(1, min(k, 4))))))
     functions = [draw.randint(0, bundle.PLACES) for _ in range(draw.choice([0, 1, 3, 64]))]
     if not functions:
         return bundle.Bundle(classes, [], [], [])
@@ -127,16 +125,6 @@ class Format(unittest.TestCase):
     def test_chart_4_of_the_documentation_packs_to_its_sample(self):
         self.assertEqual(bundle.pack(chart_in_documentation()), SAMPLES["chart-4"])
 
-    def test_late_parent_packs_to_its_sample(self):
-        self.assertEqual(bundle.pack(LATE), SAMPLES["late-parent"])
-        self.assertEqual(bundle.unpack(SAMPLES["late-parent"], bundle.parse(LATE)[1]), LATE[LATE.index("abstract"):])
-        self.assertIn(re.search(r"```\n(class Lapsed .*?)```", DOCUMENTATION, re.DOTALL)[1], LATE)
-
-        def declarations(text):
-            return {line for line in text.splitlines() if line and line[0] != "#"}
-
-        self.assertEqual(declarations(LATE), declarations(chart_in_documentation()))
-
     def test_the_example_at_the_head_of_the_script(self):
         example = re.search(r"comment:\n\n(.*?)\n\nEach", bundle.__doc__, re.DOTALL)[1]
         described, names = bundle.parse(textwrap.dedent(example))
@@ -160,13 +148,6 @@ class Format(unittest.TestCase):
     def test_order_of_parents_means_nothing(self):
         classes = "class A\nclass B under A\nclass C under A\n"
         self.assertEqual(bundle.pack(classes + "class D under C, A, B"), bundle.pack(classes + "class D under A, B, C"))
-
-    def test_classes_are_numbered_in_the_order_of_their_lines(self):
-        described, names = bundle.parse("class A\nclass B under D, A\nfunction f(x)\nabstract class C under B\nclass D under A\nmethod f(D) -> C\nnew B")
-        self.assertEqual(names.classes, ["A", "B", "C", "D"])
-        self.assertEqual(described.classes, [
-            bundle.Class(True, []), bundle.Class(True, [0, 3]), bundle.Class(False, [1]), bundle.Class(True, [0])])
-        self.assertEqual(described.methods, [bundle.Method(0, [3], [3], 2, [(bundle.NEW, 1)])])
 
     def test_words_of_the_format_are_names_too(self):
         described, names = bundle.parse(
@@ -230,21 +211,8 @@ REFUSALS = [
     ("", 1, "there is no class in the text"),
     ("# nothing\n\nfunction f()\n", 4, "there is no class in the text"),
     ("class A\n\nclass B", 3, "class B has no parent, which only the first class may lack"),
-    ("class A under A", 1, "class A has a parent, which the first class may not have"),
-    ("class A under B\nclass B under A", 1, "class A has a parent, which the first class may not have"),
-    # The first class on a cycle is named, with a shortest way round; one that only leads to a cycle is not.
-    (HEAD + "class C under A, C", 5, "class C inherits from itself: C (line 5) -> C"),
-    (HEAD + "class C under D\n\nclass D under B, C", 5, "class C inherits from itself: C (line 5) -> D (line 7) -> C"),
-    (
-        HEAD + "class C under D\nclass D under F\nclass E under D\nclass F under A, E", 6,
-        "class D inherits from itself: D (line 6) -> F (line 8) -> E (line 7) -> D"),
-    (
-        HEAD + "class C under D\nclass D under E\nclass E under C, F\nclass F under D, E\nclass G under G", 5,
-        "class C inherits from itself: C (line 5) -> D (line 6) -> E (line 7) -> C"),
-    (
-        HEAD + "class C under D, F\nclass D under E\nclass E under C\nclass F under C", 5,
-        "class C inherits from itself: C (line 5) -> F (line 8) -> C"),
-    (HEAD + "class D under D\n" + BODY * 2, 5, "class D inherits from itself: D (line 5) -> D"),
+    ("class A under A", 1, "class A does not stand after its parent A"),
+    ("class A\nclass B under A, C\nclass C under A", 2, "class B does not stand after its parent C"),
     (HEAD + "class C under A, B, A", 5, "two parents are one class"),
     ("class A\nfunction f(x, y, z, u)", 2, "a function has at most 3 arguments"),
     (HEAD + "signature f() -> A", 5, "the function has 1 argument, and here are 0"),
@@ -349,17 +317,6 @@ class Opening(unittest.TestCase):
             self.assert_answer(data + b"\0")
         self.assertGreater(opened, 300)
 
-    def test_parents_at_random(self):
-        draw, numbers = random.Random(2), set()
-        for _ in range(400):
-            count = draw.choice([2, 3, 5, 9, 128])
-            most = draw.choice([1, 2, count - 1])
-            lists = [[], *(sorted(draw.sample(range(count), draw.randint(1, min(most, 8)))) for _ in range(1, count))]
-            data = make.bundle([(make.CONCRETE, above) for above in lists], [draw.choice([3, 4])])
-            self.assert_answer(data)
-            numbers.add(vectors.opening(data)[0])
-        self.assertEqual(numbers, {0, 5, 28})
-
 
 class RoundTrips(unittest.TestCase):
     def assert_round_trip(self, data):
@@ -439,7 +396,6 @@ LINES = [
     ("refused 2", "refused: the directory is wrong, or a section holds no whole records, or there is code without methods"),
     ("refused 3", "refused: there is no class, or more classes, functions, signatures or methods than the limits"),
     ("refused 4 record 2", "refused: class 2 Ghost: the class record breaks its rule"),
-    ("refused 28 record 1", "refused: class 1 Session: the class inherits from itself"),
     ("refused 5 record 1", "refused: function 1 tick: the function has more than 3 arguments"),
     ("refused 6 record 1", "refused: signature 1 tick() -> Any: the signature record breaks its rule"),
     ("refused 7 record 0", "refused: method 0 tick(): the method record breaks its rule"),
@@ -483,10 +439,7 @@ UNEXPLAINED = [
     ("refused 12 signature 0 send 0 1 0 methods 0 1", NO_LINE),
     ("refused 14 method 0", NO_LINE),
     ("refused 18", NO_LINE),
-    ("refused 28", NO_LINE),
-    ("refused 29 record 0", NO_LINE),
     ("refused 4 record 3", "the text has no class 3"),
-    ("refused 28 record 3", "the text has no class 3"),
     ("refused 5 record 2", "the text has no function 2"),
     ("refused 6 record 2", "the text has no signature 2"),
     ("refused 7 record 3", "the text has no method 3"),
@@ -637,16 +590,6 @@ class Chart(unittest.TestCase):
         ])
         self.assertEqual(bundle.chart(CHART.encode(), "0"), text)
 
-    def test_late_parent_with_names(self):
-        """the cells of chart-4, in another order"""
-
-        def cells(text):
-            columns, *rows = (re.split(" {2,}", line.strip()) for line in bundle.chart(text.encode(), "arm").splitlines())
-            return {(first, second): found for first, *row in rows for second, found in zip(columns, row)}
-
-        self.assertEqual(cells(LATE), cells(chart_in_documentation()))
-        self.assertEqual(cells(LATE)["Lapsed", "SharedBench"], "arm(Lapsed, SharedBench)")
-
     def test_no_concrete_class_with_names(self):
         self.assertEqual(bundle.chart(b"abstract class A\nfunction f(x, y)", "f"), "\n")
 
@@ -666,7 +609,7 @@ class Chart(unittest.TestCase):
         for name, function, line in [
             ("loop", "0", "refused 21"), ("abstract-argument", "0", "refused 21"), ("three-argument-tie", "0", "refused 21"),
             ("chart-3", "1", "refused 18"), ("one-class", "0", "refused 18"), ("chart-3", "18446744073709551615", "refused 18"),
-            ("23-bytes", "0", "refused 1"), ("absent-parent", "9", "refused 4 record 1"), ("own-parent", "9", "refused 28 record 1"),
+            ("23-bytes", "0", "refused 1"), ("own-parent", "9", "refused 4 record 1"),
         ]:
             with self.subTest(name):
                 self.assertEqual(bundle.chart(SAMPLES[name], function), line + "\n")
@@ -702,11 +645,6 @@ class Commands(unittest.TestCase):
     def test_pack_refuses_with_file_and_line(self):
         self.assertEqual(self.run_script("pack", self.kept("a.txt", b"class A\nclass B under C\n")), (1, b"", "a.txt:2: there is no class C\n"))
         self.assertEqual(self.run_script("pack", self.kept("b.txt", b"class \xff\n")), (1, b"", "b.txt:1: this is no UTF-8 text\n"))
-        round_text = chart_in_documentation().replace("class Session under Any", "class Session under Any, Lapsed")
-        code, printed, said = self.run_script("pack", self.kept("round.txt", round_text.encode()))
-        self.assertEqual((code, printed), (1, b""))
-        self.assertEqual(said, "round.txt:4: class Session inherits from itself: Session (line 4) -> Lapsed (line 5) -> Session\n")
-        self.assertIn(f"    {said}", DOCUMENTATION)
         self.assertEqual(self.run_script("pack", "absent.txt"), (1, b"", "absent.txt: No such file or directory\n"))
 
     def test_unpack(self):
@@ -719,8 +657,7 @@ class Commands(unittest.TestCase):
     def test_unpack_refuses_with_the_number(self):
         for name, said in [
             ("23-bytes", "refused 1: fewer than 24 or more than 65535 bytes"),
-            ("absent-parent", "refused 4 record 1: the class record breaks its rule"),
-            ("class-cycle", "refused 28 record 4: the class inherits from itself"),
+            ("own-parent", "refused 4 record 1: the class record breaks its rule"),
         ]:
             self.assertEqual(self.run_script("unpack", self.kept("d.bundle", SAMPLES[name])), (1, b"", f"d.bundle: {said}\n"))
         self.kept("e.bundle", SAMPLES["chart-4"])

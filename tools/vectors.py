@@ -12,10 +12,10 @@ request. Answers that a later request changed are brought to the rules as they s
 
 The rules for opening, the scratch, ancestry, lookup, charts and arguments known only by upper classes stand a second time in rules.py. They give the
 answers for bundles that no vector has, and every vector is held to them, so that an answer or a byte of scratch on which the two differ is never passed
-on; so are the answers and bytes that uppers.py, matrices.py, exact.py, cycles.py and orders.py have worked out apart. The other answers, of runs, checks,
-send types and witnesses, are taken from the vectors and the rules' own cases; those for bundles made here and in these files and resends.py are worked out
-by hand from its rules. Of these answers rules.py holds what they say of resends: which one a check names first, and that a run stops at one for a reason
-that its method gives. The answers of accepted runs follow from those of the run and the check and from which signatures cover the send.
+on; so are the answers and bytes that uppers.py, matrices.py and exact.py have worked out apart. The other answers, of runs, checks, send types and
+witnesses, are taken from the vectors and the rules' own cases; those for bundles made here and in resends.py are worked out by hand from its rules. Of these
+answers rules.py holds what they say of resends: which one a check names first, and that a run stops at one for a reason that its method gives. The answers
+of accepted runs follow from those of the run and the check and from which signatures cover the send.
 """
 import itertools
 import math
@@ -25,20 +25,18 @@ import sys
 ROOT = pathlib.Path(__file__).resolve().parent.parent
 sys.dont_write_bytecode = True
 sys.path.insert(0, str(ROOT / "bundles"))
-import cycles  # noqa: E402
 import exact  # noqa: E402
 import make  # noqa: E402
 import matrices  # noqa: E402
-import orders  # noqa: E402
 import resends  # noqa: E402
 import uppers  # noqa: E402
 from earlier import entries, write_current  # noqa: E402
 from made import write_or_check  # noqa: E402
 from make import applying, chain, flat, of_methods  # noqa: E402
 from rules import (  # noqa: E402
-    ABSENT, ASKED, CLASSES, CYCLE, FUNCTIONS, LONGEST, MATRIX, MAY_FAIL, METHODS, NARROW_TARGET, NO_OVERRIDDEN, ONE, PLACES, SEVERAL, SHORT,
-    SHORT_ROW, SIGNATURES, UNOPENED, arity_of, asked, below, chart_line, chart_lines, instruction, is_covered, lookup, matrix, opening, reading,
-    refusal, refused, resend, resending, spans, view)
+    ABSENT, ASKED, CLASSES, FUNCTIONS, LONGEST, MATRIX, MAY_FAIL, METHODS, NARROW_TARGET, NO_OVERRIDDEN, ONE, PLACES, SEVERAL, SHORT, SHORT_ROW,
+    SIGNATURES, arity_of, asked, below, chart_line, chart_lines, instruction, is_covered, lookup, matrix, opening, reading, refusal, refused, resend,
+    resending, spans, view)
 from stream import FRAMES, MOST, ROW, SCRATCH, SCRATCHED, Call, ended, fills, one, reply, stream_of, tally, typed  # noqa: E402
 
 
@@ -64,11 +62,9 @@ def at_limits(classes, filled=0):
 
 
 def broken_at_the_last_record():
-    """(bundle, number, record) for the rules 4 to 9 and 28, each broken by the last record that may be there"""
+    """(bundle, number, record) for the rules 4 to 9, each broken by the last record that may be there"""
     for number, section, broken in [
         (4, 0, lambda kind, above: (2, above)),
-        (4, 0, lambda kind, above: (kind, [*above, CLASSES])),
-        (CYCLE, 0, lambda kind, above: (kind, [*above, CLASSES - 1])),
         (5, 1, lambda arity: PLACES + 1),
         (6, 2, lambda f, places, result: (f, places, CLASSES)),
         (7, 3, lambda f, places, declared, result, body: (f, places, declared, CLASSES, body)),
@@ -118,11 +114,12 @@ def moved_lists():
         # The same with the end that it had.
         yield of_two, k, 1, -1, k
         yield in_chain, k, -1, 1, k
-    # A parent too many, taken from the next list, which then begins early; in a chain that is the class itself. At the last one it is outside.
+    # A parent too many, taken from the next list, which then begins early.
     for k in [2, 64, last - 1]:
         yield by_turns, k, 0, 1, k + 1
+    # One that is not lower, or is outside.
     for k in [1, 64, last]:
-        yield in_chain, k, 0, 1, min(k + 1, last)
+        yield in_chain, k, 0, 1, k
     # A parent too few, so that the next list begins late; at the last one it is left over; elsewhere none is left.
     for k in [2, 64, last - 1, last]:
         yield of_two, k, 0, -1, min(k + 1, last)
@@ -283,7 +280,6 @@ def of_the_rules():
     yield make.bundle(*at_limits(chain(CLASSES))), 0, [CLASSES, FUNCTIONS, SIGNATURES, METHODS]
     for bundle, number, record in itertools.chain(broken_at_the_last_record(), out_of_place()):
         yield bundle, number, [record]
-    yield from cycles.openings()
     yield from twins()
 
 
@@ -373,7 +369,7 @@ def held(bundle, answer, second):
 
 
 # The later parts of the rules that have vectors of their own, beside those of the folder itself.
-LATER = [f"requests/{request:02}" for request in range(1, 10)]
+LATER = [f"requests/{request:02}" for request in range(1, 9)]
 
 
 def vectors(folder, name):
@@ -476,17 +472,13 @@ def answer_values(answer):
     return [answer["method"], int(answer["exact"])]
 
 
-# P 1 to P 5, sends like them where classes come before their parents, and one with three rivals: (bundle, argument classes of function 0, number, values)
+# P 1 to P 5, and a send with three rivals: (bundle, argument classes of function 0, number, values)
 P_CASES = [
     ("chart-3", [1, 3], 0, [2, 1]),
     ("chart-3", [1, 4], 0, [0, 1]),
     ("chart-3", [2, 3], 0, [1, 1]),
     ("chart-3", [2, 4], 11, [0, 2, 4, 0, 1, 0]),
     ("chart-4", [2, 4], 0, [3, 1]),
-    ("late-parent", [2, 4], 0, [2, 1]),
-    ("late-parent", [1, 4], 0, [1, 1]),
-    ("late-parent", [1, 3], 0, [3, 1]),
-    ("late-parent", [4, 2], 10, [0, 4, 2, 0]),
     ("three-rivals", [5], 11, [0, 5, 0, 0, 3, 1]),
 ]
 
@@ -594,10 +586,6 @@ RUNS = [
     ("chart-4", [0, 2, 4, 0], 1, 1, "value", [7]),
     ("chart-4", [0, 2, 4, 0], 0, 0, "spent", []),
     ("chart-4", [0, 2, 4, 0], MOST, 1, "value", [7]),
-    ("late-parent", [0, 1, 3, 0], 1, 1, "value", [6]),
-    ("late-parent", [0, 1, 3, 0], 0, 0, "spent", []),
-    ("late-parent", [0, 2, 3, 0], MOST, 1, "value", [5]),
-    ("late-parent", [0, 2, 7, 0], MOST, 0, ABSENT, []),
     ("loop", [0, 0, 0, 0], 31, 31, "spent", []),
     ("loop", [0, 0, 0, 0], 32, 31, "deep", []),
     ("loop", [0, 0, 0, 0], 0, 0, "spent", []),
@@ -667,10 +655,6 @@ CHECKS = [
     ("chart-3", 11, [0, 0, 2, 4, 0, 1, 0]),
     ("three-rivals", 11, [0, 0, 5, 0, 0, 3, 1]),
     ("chart-4", 0, []),
-    ("late-parent", 0, []),
-    ("absent-parent", 4, [1]),
-    ("own-parent", CYCLE, [1]),
-    ("class-cycle", CYCLE, [4]),
     ("one-class", 0, []),
     ("abstract-argument", 0, []),
     ("no-method", 10, [0, 0, 0, 0, 0]),
@@ -715,9 +699,6 @@ SEND_TYPES = [
     ("chart-5", [0, 2, 4, 0], 0, [0, 5, 7]),
     # Only one of the two signatures licenses it.
     ("chart-5", [0, 1, 3, 0], 0, [0, 5]),
-    # The class and its parent have changed numbers.
-    ("late-parent", [0, 1, 3, 0], 0, [0, 7]),
-    ("late-parent", [0, 0, 4, 0], 16, []),
     # An abstract class is an argument too, whether the send is licensed or not.
     ("abstract-argument", [0, 0, 0, 0], 0, [0]),
     ("chart-5", [0, 0, 3, 0], 16, []),
@@ -743,7 +724,7 @@ def send_type_cases(folder):
     for name, *question in SEND_TYPES:
         for row in [ROW, CLASSES, CLASSES - 1, 0]:
             yield asked_for(make.SAMPLES[name], row, *question)
-    # What opening refuses by and 19 come before 20.
+    # 1 to 9 and 19 come before 20.
     yield from turned_away(folder, "send type", [0, 0, 0, 0], rows=(ROW, CLASSES - 1))
 
 
@@ -754,10 +735,8 @@ WITNESSES = [
     ("chart-3", [0, 1, 4, 0], 0, []),
     ("chart-4", [0, 2, 4, 0], 0, []),
     ("chart-5", [1, 2, 4, 0], 0, []),
-    ("late-parent", [0, 1, 3, 0], 0, []),
     # Not covered; absent; unused and not 0; abstract.
     ("chart-5", [1, 1, 4, 0], ABSENT, []),
-    ("late-parent", [0, 3, 1, 0], ABSENT, []),
     ("chart-5", [2, 2, 4, 0], ABSENT, []),
     ("chart-5", [0, 2, 4, 1], ABSENT, []),
     ("abstract-argument", [0, 0, 0, 0], ABSENT, []),
@@ -821,7 +800,7 @@ def chart_cases(folder):
         held(bundle, (number, values, line), charted(bundle, scratch, *numbers))
         *numbers, buffer = numbers
         yield bundle, Call("chart", tuple(numbers), scratch, buffer), reply(number, values, written=line)
-    # What opening refuses by and 19 come before all others.
+    # 1 to 9 and 19 come before all others.
     yield from turned_away(folder, "chart", [0, 0], rows=(ROW, 0))
 
 
@@ -896,14 +875,6 @@ def listing_cases(folder):
         yield bundle, Call("listing", row=len(text) - 1), reply(SHORT_ROW)
 
 
-def worked_out(cases):
-    """cases that were worked out apart, held to the rules where these answer the call"""
-    for bundle, call, answer in cases:
-        if call.entry in ["ancestry", "lookup", "rough"]:
-            held(bundle, answer, reply(*asked(bundle, call.scratch, call.entry, *call.numbers)))
-        yield bundle, call, answer
-
-
 def scratch_cases(folder):
     """how long the scratch is and what is left in it"""
     for entry, bundle in vectors(folder, "scratch.jsonl"):
@@ -916,17 +887,15 @@ def scratch_cases(folder):
             yield bundle, call, answer
     for bundle, place, part in matrices.parts():
         held(bundle, part, matrix(bundle)[place])
-    yield from worked_out(matrices.cases())
+    for bundle, call, answer in matrices.cases():
+        if call.entry in ["ancestry", "lookup", "rough"]:
+            held(bundle, answer, reply(*asked(bundle, call.scratch, call.entry, *call.numbers)))
+        yield bundle, call, answer
 
 
 def resend_cases(folder):
     """resends of many kinds; no folder has them"""
     return resends.cases()
-
-
-def order_cases(folder):
-    """classes that come before their parents, and cycles of classes, beside those of the folder"""
-    return worked_out(itertools.chain(cycles.calls(), orders.cases()))
 
 
 def refused_resends(bundle):
@@ -956,7 +925,7 @@ def accepted_runs(bundle, calls):
             continue
         accepted = call._replace(entry="accepted run")
         # Refusals of the run call come first, then what the check found.
-        if ran.number in (*UNOPENED, ABSENT, SHORT):
+        if 0 < ran.number < 10 or ran.number in (ABSENT, SHORT):
             yield accepted, ran
         elif verdict.number:
             yield accepted, verdict
@@ -973,12 +942,10 @@ def all_cases(folder):
     for bundle, call, answer in itertools.chain.from_iterable(
         made(folder) for made in [
             opening_cases, view_cases, reader_cases, lookup_cases, send_type_cases, check_cases, witness_cases, run_cases, listing_cases,
-            chart_cases, rough_cases, scratch_cases, resend_cases, order_cases]):
-        # These two have an answer for every bundle.
-        if call.entry not in ("reading", "listing"):
-            taken = call.entry in SCRATCHED
-            refused_by = refusal(bundle, call.scratch if taken else MATRIX)
-            if refused_by or taken and not fills(call, answer):
+            chart_cases, rough_cases, scratch_cases, resend_cases]):
+        if call.entry in SCRATCHED:
+            refused_by = refusal(bundle, call.scratch)
+            if refused_by or not fills(call, answer):
                 held(bundle, answer, refused_by and reply(*refused_by))
         hold_resends(bundle, call, answer)
         calls = cases.setdefault(bundle, {})

@@ -17,7 +17,7 @@ static const struct {
     {"23-bytes", CURIUMTOAD_BAD_LENGTH},
     {"directory-gap", CURIUMTOAD_BAD_DIRECTORY},
     {"129-classes", CURIUMTOAD_BAD_COUNTS},
-    {"two-roots", CURIUMTOAD_BAD_CLASS},
+    {"own-parent", CURIUMTOAD_BAD_CLASS},
     {"four-arguments", CURIUMTOAD_BAD_FUNCTION},
     {"absent-result", CURIUMTOAD_BAD_SIGNATURE},
     {"empty-body", CURIUMTOAD_BAD_METHOD},
@@ -36,9 +36,6 @@ static const struct {
     {"no-overridden", CURIUMTOAD_NO_OVERRIDDEN},
     {"ambiguous-resend", CURIUMTOAD_AMBIGUOUS_RESEND},
     {"narrow-target", CURIUMTOAD_NARROW_TARGET},
-    {"own-parent", CURIUMTOAD_CLASS_CYCLE},
-    {"class-cycle", CURIUMTOAD_CLASS_CYCLE},
-    {"late-parent", CURIUMTOAD_OK},
 };
 
 static const char *folder;
@@ -77,54 +74,8 @@ static void openings(void)
     HOLDS(v[CURIUMTOAD_AT_CLASSES] == 8 && v[CURIUMTOAD_AT_FUNCTIONS] == 1 && v[CURIUMTOAD_AT_SIGNATURES] == 1 && v[CURIUMTOAD_AT_METHODS] == 3);
     HOLDS(curiumtoad_body(BUNDLE, 1, v) == CURIUMTOAD_OK);
     HOLDS(v[CURIUMTOAD_AT_CODE_START] == 123 && v[CURIUMTOAD_AT_CODE_LENGTH] == 2);
-    use("two-roots");
+    use("own-parent");
     HOLDS(curiumtoad_open(BUNDLE, v) == CURIUMTOAD_BAD_CLASS && v[CURIUMTOAD_AT_RECORD] == 1);
-}
-
-/* Whether the values, which were all 255 before a call, name this class and nothing more. */
-static int names(uint64_t class)
-{
-    uint64_t expected[CURIUMTOAD_VALUE_COUNT] = {0};
-    expected[CURIUMTOAD_AT_RECORD] = class;
-    int named = memcmp(v, expected, sizeof v) == 0;
-    memset(v, 0xff, sizeof v);
-    return named;
-}
-
-/* Every call refuses a bundle with a cycle, whatever else is wrong with its buffers and numbers, and leaves the buffers alone. */
-static void cycle(const char *sample, uint64_t class)
-{
-    static const uint8_t untouched[sizeof scratch];
-    char expected[80];
-    memset(scratch, 0, sizeof scratch);
-    memset(row, 0, sizeof row);
-    memset(text, 0, sizeof text);
-    memset(v, 0xff, sizeof v);
-    use(sample);
-    HOLDS(curiumtoad_open(BUNDLE, v) == CURIUMTOAD_CLASS_CYCLE && names(class));
-    HOLDS(curiumtoad_body(BUNDLE, 9, v) == CURIUMTOAD_CLASS_CYCLE && names(class));
-    HOLDS(curiumtoad_ancestry(BUNDLE, scratch, 0, 9, 9, v) == CURIUMTOAD_CLASS_CYCLE && names(class));
-    HOLDS(curiumtoad_ancestry(BUNDLE, SCRATCH, 0, 0, v) == CURIUMTOAD_CLASS_CYCLE && names(class));
-    HOLDS(curiumtoad_lookup(BUNDLE, SCRATCH, 9, 0, 0, 0, v) == CURIUMTOAD_CLASS_CYCLE && names(class));
-    HOLDS(curiumtoad_rough(BUNDLE, SCRATCH, 9, 0, 0, 0, v) == CURIUMTOAD_CLASS_CYCLE && names(class));
-    HOLDS(curiumtoad_send_type(BUNDLE, SCRATCH, row, sizeof row, 9, 0, 0, 0, v) == CURIUMTOAD_CLASS_CYCLE && names(class));
-    HOLDS(curiumtoad_send_type(BUNDLE, scratch, 0, row, 0, 9, 0, 0, 0, v) == CURIUMTOAD_CLASS_CYCLE && names(class));
-    HOLDS(curiumtoad_check(BUNDLE, SCRATCH, v) == CURIUMTOAD_CLASS_CYCLE && names(class));
-    HOLDS(curiumtoad_witness(BUNDLE, SCRATCH, 9, 0, 0, 0, v) == CURIUMTOAD_CLASS_CYCLE && names(class));
-    HOLDS(curiumtoad_run(BUNDLE, SCRATCH, 9, 0, 0, 0, 9, v) == CURIUMTOAD_CLASS_CYCLE && names(class));
-    HOLDS(curiumtoad_run_accepted(BUNDLE, SCRATCH, 9, 0, 0, 0, 9, v) == CURIUMTOAD_CLASS_CYCLE && names(class));
-    HOLDS(curiumtoad_chart(BUNDLE, SCRATCH, text, sizeof text, 9, 9, v) == CURIUMTOAD_CLASS_CYCLE && names(class));
-    HOLDS(memcmp(scratch, untouched, sizeof scratch) == 0 && memcmp(row, untouched, sizeof row) == 0 && memcmp(text, untouched, sizeof text) == 0);
-    snprintf(expected, sizeof expected, "refused %d record %" PRIu64 "\n", CURIUMTOAD_CLASS_CYCLE, class);
-    HOLDS(curiumtoad_listing(BUNDLE, text, sizeof text, v) == CURIUMTOAD_OK && v[CURIUMTOAD_AT_TEXT_LENGTH] == strlen(expected));
-    HOLDS(memcmp(text, expected, strlen(expected)) == 0);
-}
-
-static void cycles(void)
-{
-    cycle("own-parent", 1);
-    /* Classes 1 and 2 are lower; they lead into the cycle and are not on it. */
-    cycle("class-cycle", 4);
 }
 
 /* Whether the ancestry call gives this answer, and 0 for the other values, whatever they are before. */
@@ -377,7 +328,6 @@ int main(int argc, char **argv)
         HOLDS(curiumtoad_check(BUNDLE, SCRATCH, v) == checks[i].number);
     }
     openings();
-    cycles();
     ancestries();
     exact_methods();
     sends();

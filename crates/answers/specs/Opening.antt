@@ -7,7 +7,7 @@ use Rattle.layout.specs.Tables.{Tables}
 use Rattle.answers.specs.declared.opening.Rule as rule-type
 use Rattle.answers.specs.declared.opening.Rule.TheVariants.{Class, Function, Signature, Method, Twin, Code}
 use Rattle.answers.specs.declared.opening.LayoutFinding as finding-type
-use Rattle.answers.specs.declared.opening.LayoutFinding.TheVariants.{Length, Directory, Counts, Cycle, Record}
+use Rattle.answers.specs.declared.opening.LayoutFinding.TheVariants.{Length, Directory, Counts, Record}
 use Rattle.answers.specs.declared.opening.Opening as opening-type
 use Rattle.answers.specs.declared.opening.Opening.TheVariants.{Opened, Refused}
 
@@ -19,19 +19,17 @@ rule_number Method = numbers.bad_method
 rule_number Twin = numbers.twin_method
 rule_number Code = numbers.bad_code
 
--- a layout finding: its number, and the record behind 1 to 3
+-- a layout finding: its number, and the record from 4 on
 abbrev pub layout_number : finding-type.LayoutFinding → ℕ
 layout_number Length = numbers.bad_length
 layout_number Directory = numbers.bad_directory
 layout_number Counts = numbers.bad_counts
-layout_number (Cycle c) = numbers.class_cycle
 layout_number (Record rule k) = rule_number rule
 
 abbrev pub layout_values : finding-type.LayoutFinding → List ℕ
 layout_values Length = []
 layout_values Directory = []
 layout_values Counts = []
-layout_values (Cycle c) = c ∷ []
 layout_values (Record rule k) = k ∷ []
 
 -- An opened bundle gives its four counts.

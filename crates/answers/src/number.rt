@@ -7,9 +7,6 @@ pub const BAD_COUNTS: u8 = 3;
 
 pub const BAD_CLASS: u8 = 4;
 
-// Tried after 4 and before 5.
-pub const CLASS_CYCLE: u8 = 28;
-
 pub const BAD_FUNCTION: u8 = 5;
 
 pub const BAD_SIGNATURE: u8 = 6;

@@ -1,11 +1,11 @@
-// What opening finds: numbers 1 to 9 and 28, and the opened bundle.
+// What opening finds: numbers 1 to 9, and the opened bundle.
 ghost use Rattle.std.specs.Prelude.{◌≡◌, get_or};
 ghost use Rattle.answers.specs.declared.opening.Opening.TheVariants.{Refused};
 ghost use Rattle.answers.specs.Opening.{rule_number, layout_number, layout_values, Refuses};
 
 use crate::number::{
     BAD_CLASS, BAD_CODE, BAD_COUNTS, BAD_DIRECTORY, BAD_FUNCTION, BAD_LENGTH, BAD_METHOD,
-    BAD_SIGNATURE, CLASS_CYCLE, TWIN_METHOD,
+    BAD_SIGNATURE, TWIN_METHOD,
 };
 use layout::bundle::Bundle;
 
@@ -35,13 +35,12 @@ impl Rule {
     }
 }
 
-// Numbers 1 to 3; 28, with the lowest class that inherits from itself; from 4 to 9 the rule, with the record that breaks it.
+// Numbers 1 to 3; from 4 on the rule, with the record that breaks it.
 #[derive(Drop)]
 pub enum LayoutFinding {
     Length,
     Directory,
     Counts,
-    Cycle(usize),
     Record(Rule, usize),
 }
 
@@ -53,7 +52,6 @@ impl LayoutFinding {
             LayoutFinding::Length => BAD_LENGTH,
             LayoutFinding::Directory => BAD_DIRECTORY,
             LayoutFinding::Counts => BAD_COUNTS,
-            LayoutFinding::Cycle(_) => CLASS_CYCLE,
             LayoutFinding::Record(rule, _) => rule.number(),
         }
     }
@@ -66,7 +64,6 @@ impl LayoutFinding {
             LayoutFinding::Length => 0,
             LayoutFinding::Directory => 0,
             LayoutFinding::Counts => 0,
-            LayoutFinding::Cycle(class) => class,
             LayoutFinding::Record(_, k) => k,
         }
     }

@@ -5,7 +5,7 @@ ghost use Rattle.answers.specs.Refusals.{refusal_number, refusal_values};
 use crate::number::{ABSENT, SHORT_BUFFER, SHORT_SCRATCH};
 use crate::opening::LayoutFinding;
 
-// Numbers 1 to 9 and 28, then 19, 20 and 18, in the order in which they are tried.
+// Numbers 1 to 9, 19, 20 and 18, in the order in which they are tried.
 #[derive(Drop)]
 pub enum Refusal {
     Layout(LayoutFinding),

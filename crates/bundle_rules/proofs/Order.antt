@@ -11,7 +11,7 @@ use Rattle.answers.specs.declared.opening.Rule as rule-type
 use Rattle.bundle_rules.specs.declared.lowest.Lowest as lowest-type
 use Rattle.answers.specs.declared.opening.Rule.TheVariants.{Code}
 use Rattle.answers.specs.Opening.{rule_number}
-use Rattle.bundle_rules.specs.Rules.{lowest_of, lowest_broken, Presumed, later, opening_by}
+use Rattle.bundle_rules.specs.Rules.{lowest_of, lowest_broken, Presumed, order, opening_by}
 
 -- no record breaks one of the first i rules
 abbrev pub Kept : List rule-type.Rule → ℕ → List ℕ → Type 0
@@ -36,10 +36,11 @@ pub answered : {r o : lowest-type.Lowest} {x : Option ℕ} → lowest_of r ≡ x
 answered q e = sym q ∙ ap lowest_of e
 
 -- what a rule presumes is what the rules before it say
-pub presumed : (i : ℕ) (b : List ℕ) → i < length later → Kept later i b → Presumed (get_or later i Code) b
+pub presumed : (i : ℕ) (b : List ℕ) → i < length order → Kept order i b → Presumed (get_or order i Code) b
 presumed zero b l h = tt
 presumed (suc zero) b l h = tt
 presumed (suc (suc zero)) b l h = tt
 presumed (suc (suc (suc zero))) b l h = tt
-presumed (suc (suc (suc (suc zero)))) b l h = h 2 (omega arith)
-presumed (suc (suc (suc (suc (suc i))))) b l h = absurd (omega arith)
+presumed (suc (suc (suc (suc zero)))) b l h = tt
+presumed (suc (suc (suc (suc (suc zero))))) b l h = h 3 (omega arith)
+presumed (suc (suc (suc (suc (suc (suc i)))))) b l h = absurd (omega arith)

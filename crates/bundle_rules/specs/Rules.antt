@@ -2,8 +2,7 @@
 -- Assumes nothing.
 use Rattle.std.specs.Prelude.{ℕ, ◌≡◌, Bool, List, [], ◌∷◌}
 use Rattle.std.proofs.Math.Option.{Option, none, some}
-use Rattle.rules.specs.Numbers as numbers
-use Rattle.rules.specs.Layout.{Answer, gives, require_each, list_length, body_length, class_rule, cycle_rule, function_rule, signature_rule, method_rule, twin_rule, code_rule, class_count, function_count, signature_count, method_count, lowest}
+use Rattle.rules.specs.Layout.{Answer, gives, require_each, list_length, body_length, class_rule, function_rule, signature_rule, method_rule, twin_rule, code_rule, class_count, function_count, signature_count, method_count, lowest}
 use Rattle.answers.specs.Opening.{rule_number}
 use Rattle.bundle_rules.specs.declared.lowest.Lowest as lowest-type
 use Rattle.bundle_rules.specs.declared.lowest.Lowest.TheVariants as outcome
@@ -53,16 +52,11 @@ Presumed Method b = Unit
 Presumed Twin b = Unit
 Presumed Code b = lowest_broken Method b ≡ none
 
--- the rules on records that follow that on classes, in the order of their numbers
-abbrev pub later : List rule-type.Rule
-later = Function ∷ Signature ∷ Method ∷ Twin ∷ Code ∷ []
+-- the rules on records in the order of their numbers
+abbrev pub order : List rule-type.Rule
+order = Class ∷ Function ∷ Signature ∷ Method ∷ Twin ∷ Code ∷ []
 
 -- `opening` where only these rules are left to try
 unfoldable pub opening_by : List rule-type.Rule → List ℕ → Answer (List ℕ)
 opening_by [] b = gives (class_count b ∷ function_count b ∷ signature_count b ∷ method_count b ∷ [])
 opening_by (rule ∷ rest) b = require_each (lowest_broken rule b) (rule_number rule) (opening_by rest b)
-
--- `opening` behind number 3
-abbrev pub records_opening : List ℕ → Answer (List ℕ)
-records_opening b =
-    require_each (lowest_broken Class b) numbers.bad_class (require_each (lowest (cycle_rule b) (class_count b)) numbers.class_cycle (opening_by later b))

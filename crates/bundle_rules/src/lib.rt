@@ -1,3 +1,3 @@
-// Opening (M 3.1): the rules one after the other, 28 behind 4 and else in the order of their numbers, each decided for the whole bundle before the next.
+// Opening (M 3.1): the rules 1 to 9 in their order, each decided for the whole bundle before the next.
 mod lowest;
 pub mod opening;

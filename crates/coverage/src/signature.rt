@@ -82,7 +82,7 @@ pub fn broken_signature(bytes: &[u8], b: Bundle, scratch: &[u8]) -> Verdict
     requires { Prepared bytes.now b scratch.now }
     ensures { let M = model_of bytes.now in verdict_said result ≡ signature_verdict M (broken_signature M) }
 {
-    let order = order_methods(bytes, b, scratch);
+    let order = order_methods(bytes, b);
     let mut admits = [0u64; TABLE_WORDS];
     fill_table(bytes, b, scratch, &order, false, &mut admits);
     let mut holds = [0u64; TABLE_WORDS];

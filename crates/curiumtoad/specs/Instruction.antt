@@ -15,6 +15,6 @@ abbrev pub instruction_said : answer-type.InstructionAnswer → Answer (Option I
 instruction_said (answer.Read r) = gives (reading_said r)
 instruction_said (answer.Refused r) = refusal_said r
 
--- the call: 1 to 9 and 28, then 18 for an absent method, then what stands at position n of the method's body
+-- the call: 1 to 9, then 18 for an absent method, then what stands at position n of the method's body
 unfoldable pub instruction_call : List ℕ → ℕ → ℕ → Answer (Option Instr)
 instruction_call b m n = when_open b (λ M. require (ltb m M.methods) numbers.absent (gives (nth (M.body m) n)))

@@ -5,7 +5,7 @@ ghost use Rattle.answers.specs.Opening.{said, Opens};
 
 pub use answers::opening::{LayoutFinding, Opening};
 
-// The counts and tables of a bundle that opens, or the first of the rules that it breaks.
+// The counts and tables of a bundle that opens, or the first of the rules 1 to 9 that it breaks.
 pub fn open(bundle: &[u8]) -> Opening
     ensures result_value { said result ≡ opening_call bundle.now }
     ensures opens { Opens bundle.now result }

@@ -6,7 +6,7 @@ use Rattle.reply.specs.declared.Reply as reply-type
 
 -- raised by each change of the bundle's layout, of what is lent and written, or of a function's arguments
 abbrev pub version : ℕ
-version = 6
+version = 5
 
 -- the reply is handed over: its number is returned, its values are written
 abbrev pub Handed : reply-type.Reply → ℕ → List ℕ → Type 0

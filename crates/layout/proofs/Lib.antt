@@ -1,5 +1,4 @@
 pub mod Within
 pub mod Opened
-pub mod Lists
 pub mod Readings
 pub mod Tuples

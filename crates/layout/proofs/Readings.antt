@@ -1,4 +1,4 @@
--- What the bytes of an opened bundle's records read as: the places of a tuple, the instructions of a body.
+-- What the bytes of an opened bundle's records read as: the places of a tuple, the parents of a class, the instructions of a body.
 -- Assumes nothing.
 use Prim.Native.Nat.{ℕ, zero, suc, ◌+◌, ◌*◌, ◌/◌, ◌≤◌, ◌<◌}
 use native.Mathlib.Omega.{arith}
@@ -10,10 +10,10 @@ use lib.ListN.{length, take, get_or}
 use borrow.Author.Tests.{ltb-true}
 use Rattle.rules.specs.Bounded.{every}
 use Rattle.rules.specs.Bytes.{byte, part}
-use Rattle.rules.specs.Layout.{offset, code_section, places, tuple_rule, class_count, arity_of, sig_function_of, sig_tuple_at, sig_tuple_of, signature_rule, function_of, specialiser_tuple_at, declared_tuple_at, specialiser_tuple_of, declared_tuple_of, method_rule, body_offset, body_length, code_of}
+use Rattle.rules.specs.Layout.{offset, parent_section, code_section, places, tuple_rule, class_count, list_offset, list_length, parents_of, rises_above, rises, class_rule, arity_of, sig_function_of, sig_tuple_at, sig_tuple_of, signature_rule, function_of, specialiser_tuple_at, declared_tuple_at, specialiser_tuple_of, declared_tuple_of, method_rule, body_offset, body_length, code_of}
 use Rattle.rules.specs.Model.{arg, decode, model_of, operand_rule}
 use Rattle.rules.proofs.Lists.{and_left, and_right, every_place}
-use Rattle.rules.proofs.Places.{code_length, used_places_read, instructions_length, instructions_read, body_within, part_at}
+use Rattle.rules.proofs.Places.{parents_length, code_length, used_places_read, instructions_length, instructions_read, list_within, body_within, rules_sections, part_at}
 use Rattle.layout.specs.Opened.{Opened}
 use Rattle.layout.specs.declared.bundle.Bundle.{Bundle}
 use Rattle.layout.proofs.Opened.{rules_of, tables_of, wellformed_of, counts_of}
@@ -24,6 +24,22 @@ unfolding every
 get_d_below n h [] e i = h
 get_d_below n h (x ∷ xs) e zero = ltb-true x n (and_left (ltb x n) (every (λ c. ltb c n) xs) e)
 get_d_below n h (x ∷ xs) e (suc i) = get_d_below n h xs (and_right (ltb x n) (every (λ c. ltb c n) xs) e) i
+
+above_short : (c x : ℕ) (ys : List ℕ) → rises_above x ys ≡ true → every (λ p. ltb p c) ys ≡ true → x < c → x + length ys < c
+unfolding rises_above every
+above_short c x [] e l h = omega arith
+above_short c x (y ∷ ys) e l h =
+    let step = ltb-true x y (and_left (ltb x y) (rises_above y ys) e) in
+    let lower = ltb-true y c (and_left (ltb y c) (every (λ p. ltb p c) ys) l) in
+    omega (arith, above_short c y ys (and_right (ltb x y) (rises_above y ys) e) (and_right (ltb y c) (every (λ p. ltb p c) ys) l) lower)
+
+-- a list of numbers below c that rises strictly has at most c of them
+rising_short : (c : ℕ) (xs : List ℕ) → rises xs ≡ true → every (λ p. ltb p c) xs ≡ true → length xs ≤ c
+unfolding rises every
+rising_short c [] e l = omega arith
+rising_short c (x ∷ xs) e l =
+    let lower = ltb-true x c (and_left (ltb x c) (every (λ p. ltb p c) xs) l) in
+    omega (arith, above_short c x xs e (and_right (ltb x c) (every (λ p. ltb p c) xs) l) lower)
 
 module _ {b : List ℕ} {t : Bundle} (o : Opened b t) where
   -- each place of a tuple that keeps its rule is the byte there, and names a class of the bundle
@@ -57,6 +73,35 @@ module _ {b : List ℕ} {t : Bundle} (o : Opened b t) where
   declared_read m i h k =
       let rule : method_rule b m ≡ true = (rules_of o).of_method m (omega (arith, counts_of o)) in
       place_read (arity_of b (function_of b m)) (declared_tuple_at b m) i (search (and_left, and_right) depth 9) k
+
+  pub parents_counted : (c : ℕ) → c < t.classes → length ((model_of b).parents c) ≡ list_length b c
+  unfolding model_of
+  parents_counted c h = parents_length b (rules_of o) c (omega (arith, counts_of o))
+
+  -- a list that rises strictly has no more parents than there are lower classes
+  pub parents_few : (c : ℕ) → c < t.classes → length ((model_of b).parents c) ≤ c
+  unfolding model_of class_rule
+  parents_few c h =
+      let counts = counts_of o in
+      let rule : class_rule b c ≡ true = (rules_of o).of_class c (omega arith) in
+      rising_short c (parents_of b c) (search (and_left, and_right)) (search (and_left, and_right))
+
+  -- parent i of class c stands within the bundle, and is a lower class
+  module _ (c i : ℕ) (h : c < t.classes) (k : i < length ((model_of b).parents c)) where
+    pub parent_within : t.parent_at + list_offset b c + i < length b
+    unfolding model_of
+    parent_within =
+        let tables = tables_of o in
+        let counts = counts_of o in
+        omega (arith, parents_counted c h, list_within b (rules_of o) c (omega arith), rules_sections b (rules_of o))
+
+    pub parent_read : let x = byte b (t.parent_at + list_offset b c + i) in (x ≡ get_or ((model_of b).parents c) i 0) × (x < c)
+    unfolding model_of parents_of
+    parent_read =
+        let same : byte b (offset b parent_section + list_offset b c + i) ≡ get_or (parents_of b c) i 0 =
+        sym (part_at b (offset b parent_section + list_offset b c) (list_length b c) i (omega (arith, parents_counted c h))) in
+        let lower = every_place (λ p. ltb p c) (parents_of b c) 0 ((wellformed_of o).parents_lower c (omega (arith, counts_of o))) i k in
+        rw (tables_of o).parent_at (same, omega (arith, ltb-true (get_or (parents_of b c) i 0) c lower))
 
   -- two bytes to an instruction
   pub body_counted : (m : ℕ) → m < t.methods → length ((model_of b).body m) ≡ body_length b m / 2

@@ -1,5 +1,4 @@
 pub mod Tables
-pub mod Listed
 pub mod Opened
 pub mod Instruction
 pub mod Bodies

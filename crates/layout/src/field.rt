@@ -1,6 +1,6 @@
 // A reader for each field of a record of an opened bundle: what it gives is the field of the bundle's model.
 ghost use Rattle.std.specs.Prelude.{◌≡◌, true, ◌<◌, ◌≤◌, length, get_or};
-ghost use Rattle.rules.specs.Layout.{places};
+ghost use Rattle.rules.specs.Layout.{max_classes, places};
 ghost use Rattle.rules.specs.Model.{arg, model_of, operand_rule};
 ghost use Rattle.layout.specs.Instruction.{instr};
 ghost use Rattle.layout.specs.Bodies.{BodySpan};
@@ -11,7 +11,8 @@ use crate::bytes::byte_at;
 use crate::instruction::{Instruction, decoded};
 use crate::record;
 use crate::record::{
-    body_length, body_offset, declared_tuple_at, kind, sig_tuple_at, specialiser_tuple_at,
+    body_length, body_offset, declared_tuple_at, kind, list_offset, sig_tuple_at,
+    specialiser_tuple_at,
 };
 
 // Whether class c has instances of its own.
@@ -21,6 +22,25 @@ pub fn is_concrete(bytes: &[u8], b: Bundle, c: usize) -> bool
     ensures { result ≡ (model_of bytes.now).concrete c }
 {
     kind(bytes, b, c) == 1
+}
+
+// How many parents class c has.
+pub fn parent_count(bytes: &[u8], b: Bundle, c: usize) -> usize
+    requires opened { Opened bytes.now b }
+    requires c_lt_classes { c < b.classes }
+    ensures { (result ≡ length ((model_of bytes.now).parents c)) × (result ≤ max_classes) }
+{
+    record::parent_count(bytes, b, c)
+}
+
+// Parent i of class c.
+pub fn parent(bytes: &[u8], b: Bundle, c: usize, i: usize) -> usize
+    requires opened { Opened bytes.now b }
+    requires c_lt_classes { c < b.classes }
+    requires i_in_bounds { i < length ((model_of bytes.now).parents c) }
+    ensures { (result ≡ get_or ((model_of bytes.now).parents c) i 0) × (result < c) }
+{
+    byte_at(bytes, b.parent_at + list_offset(bytes, b, c) + i)
 }
 
 // How many arguments function f has.

@@ -4,6 +4,5 @@ pub mod bytes;
 pub mod directory;
 pub mod field;
 pub mod instruction;
-pub mod parents;
 pub mod record;
 pub mod tuple;

@@ -1,4 +1,4 @@
--- The record that a layout refusal names: behind number 3 there is one.
+-- The record that a layout refusal names: from number 4 on there is one.
 -- Assumes nothing.
 use Prim.Native.Nat.{◌≤◌, ◌<◌}
 use native.Mathlib.Omega.{arith}
@@ -24,12 +24,10 @@ pub record_none : (f : finding-type.LayoutFinding) → layout_number f < numbers
 record_none finding.Length h = refl
 record_none finding.Directory h = refl
 record_none finding.Counts h = refl
-record_none (finding.Cycle c) h = absurd (omega arith)
 record_none (finding.Record rule k) h = absurd (omega (arith, record_number rule))
 
 pub record_one : (f : finding-type.LayoutFinding) → numbers.bad_class ≤ layout_number f → layout_values f ≡ get_or (layout_values f) 0 0 ∷ []
 record_one finding.Length h = absurd (omega arith)
 record_one finding.Directory h = absurd (omega arith)
 record_one finding.Counts h = absurd (omega arith)
-record_one (finding.Cycle c) h = refl
 record_one (finding.Record rule k) h = refl

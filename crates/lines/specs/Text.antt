@@ -32,7 +32,7 @@ methods [] = []
 methods (m ∷ []) = field " method " m
 methods (m ∷ n ∷ ns) = field " methods " m ++ field " " n
 
--- The values that come with a number. None: 1 to 3. One, the record: 4 to 9 and 28. Two, method and instruction: 14 to 17 and 25 to 27. More: 10 to 13,
+-- The values that come with a number. None: 1 to 3. One, the record: 4 to 9. Two, method and instruction: 14 to 17 and 25 to 27. More: 10 to 13,
 -- signature, send and methods; a tuple has a value for each of the layout's places, and as many are printed as
 -- the function has arguments.
 unfoldable pub finding : Model → List ℕ → List ℕ

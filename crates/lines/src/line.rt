@@ -39,7 +39,7 @@ pub fn counts_line(text: &mut [u8], b: Bundle) -> usize
     put_word(text, end, b"\n")
 }
 
-// Writes the record that a layout refusal names: behind number 3 there is one.
+// Writes the record that a layout refusal names: from 4 on there is one.
 fn put_record(text: &mut [u8], at: usize, found: LayoutFinding) -> usize
     requires { at + 32 ≤ length text.old }
     ensures { (M : Model) → Appended 32 text.old at (finding M (layout_values found)) text.new result }

@@ -20,73 +20,37 @@ fn add(set: &mut [u8; ROW], class: usize)
     set[class / 8] = set[class / 8] | (1 << (class % 8));
 }
 
-// The classes found so far, in the order in which they were: a bit and an entry for each.
-#[derive(Drop)]
-struct Found {
-    set: [u8; ROW],
-    list: [u8; CLASSES],
-    count: usize,
-}
-
-fn with_class(found: Found, class: usize) -> Found {
-    if class >= CLASSES {
-        return found;
-    }
-    if found.count >= CLASSES {
-        return found;
-    }
-    let mut set = found.set;
-    if has(&set, class) {
-        return found;
-    }
-    add(&mut set, class);
-    let mut list = found.list;
-    let count = found.count;
-    list[count] = class as u8;
-    Found {
-        set,
-        list,
-        count: count + 1,
-    }
-}
-
-fn with_parents(bundle: &[u8], class: usize, before: Found) -> Found
-    requires { class < 256 }
+fn add_parents(bundle: &[u8], class: usize, set: &mut [u8; ROW])
+    requires { class < 128 }
 {
     let count = parent_count(bundle, class);
-    let mut found = before;
     let mut i = 0;
     while i < count {
-        found = with_class(found, parent(bundle, class, i));
+        let above = parent(bundle, class, i);
         i += 1;
-    }
-    found
-}
-
-fn wide(class: u8) -> usize
-    ensures { result < 256 }
-{
-    class as usize
-}
-
-// The classes that the given one is under: from the class to its parents, then to the parents of each class found, whatever their numbers.
-pub(crate) fn all_above(bundle: &[u8], class: usize) -> [u8; ROW] {
-    let none = Found {
-        set: [0u8; ROW],
-        list: [0u8; CLASSES],
-        count: 0,
-    };
-    let mut found = with_class(none, class);
-    let mut i = 0;
-    while i < CLASSES {
-        if i >= found.count {
-            return found.set;
+        if above >= CLASSES {
+            continue;
         }
-        let list = found.list;
-        found = with_parents(bundle, wide(list[i]), found);
-        i += 1;
+        add(set, above);
     }
-    found.set
+}
+
+// The classes that the given one is under. The number of a parent is lower than its class's, so that a class of the set is added before its own parents are.
+pub(crate) fn all_above(bundle: &[u8], class: usize) -> [u8; ROW] {
+    let mut set = [0u8; ROW];
+    if class >= CLASSES {
+        return set;
+    }
+    add(&mut set, class);
+    let mut left = class + 1;
+    while left > 0 {
+        left -= 1;
+        if !has(&set, left) {
+            continue;
+        }
+        add_parents(bundle, left, &mut set);
+    }
+    set
 }
 
 pub(crate) fn is_under(bundle: &[u8], class: usize, other: usize) -> bool {

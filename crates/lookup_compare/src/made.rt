@@ -39,55 +39,29 @@ fn put_byte(space: &mut [u8], at: usize, value: usize) -> usize {
     put(space, at, &[low(value)])
 }
 
-// How large a bundle is, and how dense its inheritance: beside one sure parent each class that stands before is a parent by a chance of one in so many. Class 0
-// stands before all; of two others the one whose number is lower with the bits of `turned` exchanged. With none exchanged that is the order of the numbers.
+// How large a bundle is, and how dense its inheritance: beside one sure parent each lower class is a parent by a chance of one in so many.
 #[derive(Drop)]
 pub(crate) struct Plan {
     pub(crate) classes: usize,
     pub(crate) functions: usize,
     pub(crate) methods: usize,
     pub(crate) chance: usize,
-    pub(crate) turned: usize,
-}
-
-impl Plan {
-    fn stands_before(self, class: usize, other: usize) -> bool {
-        if class == 0 {
-            return other != 0;
-        }
-        class ^ self.turned < other ^ self.turned
-    }
-}
-
-// A class that stands before another.
-fn draw_parent(state: &mut u64, class: usize, plan: Plan) -> usize
-    requires { 0 < plan.classes }
-{
-    let drawn = draw(state, plan.classes);
-    if plan.stands_before(drawn, class) {
-        return drawn;
-    }
-    0
 }
 
 // Writes the parents of a class in rising order, and answers where they end. Class 0 has none.
-fn put_parents(space: &mut [u8], state: &mut u64, at: usize, class: usize, plan: Plan) -> usize
-    requires chance_nonzero { 0 < plan.chance }
-    requires classes_nonzero { 0 < plan.classes }
+fn put_parents(space: &mut [u8], state: &mut u64, at: usize, class: usize, chance: usize) -> usize
+    requires { 0 < chance }
 {
     if class == 0 {
         return at;
     }
-    let sure = draw_parent(state, class, plan);
+    let sure = draw(state, class);
     let mut end = at;
     let mut above = 0;
-    while above < plan.classes {
+    while above < class {
         let candidate = above;
         above += 1;
-        if !plan.stands_before(candidate, class) {
-            continue;
-        }
-        let is_drawn = comes_up(state, plan.chance);
+        let is_drawn = comes_up(state, chance);
         if candidate != sure && !is_drawn {
             continue;
         }
@@ -103,8 +77,7 @@ fn put_class(space: &mut [u8], at: usize, kind: usize, offset: usize, len: usize
 
 // Writes the classes, and their parents into the section after them, and answers where that ends.
 fn put_classes(space: &mut [u8], state: &mut u64, parent_at: usize, plan: Plan) -> usize
-    requires chance_nonzero { 0 < plan.chance }
-    requires classes_nonzero { 0 < plan.classes }
+    requires { 0 < plan.chance }
 {
     let classes = plan.classes;
     let mut record_at = 24;
@@ -112,7 +85,7 @@ fn put_classes(space: &mut [u8], state: &mut u64, parent_at: usize, plan: Plan) 
     let mut class = 0;
     while class < classes {
         let start = end;
-        end = put_parents(space, state, start, class, plan);
+        end = put_parents(space, state, start, class, plan.chance);
         let offset = between(parent_at, start);
         let len = between(start, end);
         record_at = put_class(space, record_at, draw(state, 2), offset, len);

@@ -277,14 +277,6 @@ fn draw_classes(state: &mut u64, number: usize) -> usize
     }
 }
 
-// Every other bundle has its classes in the order of their numbers.
-fn draw_turned(state: &mut u64, number: usize) -> usize {
-    if number % 2 == 0 {
-        return 0;
-    }
-    draw(state, 128)
-}
-
 fn draw_plan(state: &mut u64, number: usize) -> Plan
     ensures classes_nonzero { 0 < result.classes }
     ensures classes_bound { result.classes ≤ 128 }
@@ -297,7 +289,6 @@ fn draw_plan(state: &mut u64, number: usize) -> Plan
         functions: 1 + draw(state, 4),
         methods: 1 + draw(state, 60),
         chance: 2 + draw(state, 30),
-        turned: draw_turned(state, number),
     }
 }
 

@@ -16,7 +16,7 @@ use Rattle.rules.specs.Machine.{Frame, goes, ends, value, stopped, stopped_at, s
 use Rattle.rules.proofs.Lists.{and_left, and_both}
 use Rattle.frames.specs.Arrays.{frame_numbers, method_at, next_at, height_at, stack_at, raised, laid}
 use Rattle.machine.specs.Held.{stack_from, frame_of, callers_of, resumed, next_of, split, FrameFits, Waits, Waiting, waiting, Held, held, Going, going}
-use Rattle.machine.proofs.Stores.{length_stack, numbers_of, waits_of, fits_of, waiting_of_lem, has_frame, has_stack, StackRoom, pushed_frame, pushed_callers}
+use Rattle.machine.proofs.Stores.{length_stack, numbers_of, waits_of, fits_of, waiting_of, has_frame, has_stack, StackRoom, pushed_frame, pushed_callers}
 
 resume_goes : (g : Frame) (gs : List Frame) (i : Instr) (more : List Instr) → g.rest ≡ i ∷ more
     → resume g gs ≡ goes i (record { method = g.method; args = g.args; at = g.at; rest = more; stack = g.stack }) gs
@@ -94,7 +94,7 @@ module _ (M : Model) (fs vs : List ℕ) where
     callers_more = ap (callers_of M fs vs) z
 
     caller_waits : Waits M (frame_of M fs vs j ∷ callers_of M fs vs j)
-    caller_waits = rw callers_more at (waits_of (waiting_of_lem h))
+    caller_waits = rw callers_more at (waits_of (waiting_of h))
 
     pub caller_room : StackRoom fs vs j
     unfolding frame_of
@@ -102,8 +102,8 @@ module _ (M : Model) (fs vs : List ℕ) where
         let s = caller_waits.0 in
         let few : j < max_frames = omega (arith, (numbers_of h).frame) in
         record {
-          frame = has_frame (waiting_of_lem h) j few;
-          stack = has_stack (waiting_of_lem h) j few;
+          frame = has_frame (waiting_of h) j few;
+          stack = has_stack (waiting_of h) j few;
           height = omega (arith, s.room, s.short, length_stack vs (stack_at j) (height_at fs j));
         }
 

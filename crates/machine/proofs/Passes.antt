@@ -34,7 +34,7 @@ use Rattle.frames.specs.Arrays.{frame_numbers, frame_bytes, stack_room, method_a
 use Rattle.machine.specs.Held.{stack_from, frame_of, callers_of, split, turn_at, FrameFits, Waiting, waiting, Held, held, Going, going}
 use Rattle.machine.specs.Endings.{StepsTo}
 use Rattle.machine.specs.declared.ending.Stepped.TheVariants as stepped
-use Rattle.machine.proofs.Stores.{length_stack, drop_stack, take_stack, kept, frame_of_lem, callers_same, waiting_same, numbers_of, fits_of, waiting_of_lem, waits_of, StackRoom, pushed_frame, pushed_callers, lowered_frame}
+use Rattle.machine.proofs.Stores.{length_stack, drop_stack, take_stack, kept, frame_of_lem, callers_same, waiting_same, numbers_of, fits_of, waiting_of, waits_of, StackRoom, pushed_frame, pushed_callers, lowered_frame}
 
 pub held_of : {M : Model} {fs vs : List ℕ} {k : ℕ} → Going M fs vs k → Held M fs vs k
 held_of (going l h) = h
@@ -177,7 +177,7 @@ module _ (M : Model) (w : Wellformed M) (fs vs : List ℕ) (k : ℕ) (g : Going 
         let s = fits_of (held_of g) in
         let room = put_room (passed fs k) refl in
         let method = kept fs (frame_numbers * k + 1) (next_at fs k + 1) (frame_numbers * k) (λ e. omega arith) in
-        let rest = stored M fs vs k (frame_numbers * k + 1) (next_at fs k + 1) (omega arith) (waiting_of_lem (held_of g)) in
+        let rest = stored M fs vs k (frame_numbers * k + 1) (next_at fs k + 1) (omega arith) (waiting_of (held_of g)) in
         let same : frame_of M (raised (passed fs k) k) (laid (passed fs k) vs k v) k ≡ after (split M top) (v ∷ top.stack) =
         pushed_frame M (passed fs k) vs k v room (rw method arity_few) ∙ ap (push v) (passed_frame M fs vs k n.frame) in
         let fits = fits_after M 0 top (v ∷ top.stack) w s top_left (omega (arith, s.room)) (present_more M v top.stack below s.values_present) in
@@ -206,7 +206,7 @@ module _ (M : Model) (w : Wellformed M) (fs vs : List ℕ) (k : ℕ) (g : Going 
 
     sent_callers : (callers_of M (passed (lowered fs k j) k) vs k ≡ callers_of M fs vs k) × Waiting M (passed (lowered fs k j) k) vs k
     sent_callers =
-        let one = stored M fs vs k (frame_numbers * k + 2) j (omega arith) (waiting_of_lem (held_of g)) in
+        let one = stored M fs vs k (frame_numbers * k + 2) j (omega arith) (waiting_of (held_of g)) in
         let two = stored M (lowered fs k j) vs k (frame_numbers * k + 1) (next_at (lowered fs k j) k + 1) (omega arith) one.1 in
         (two.0 ∙ one.0, two.1)
 
@@ -280,7 +280,7 @@ module _ (M : Model) (w : Wellformed M) (fs vs : List ℕ) (k : ℕ) (g : Going 
   resent_waiting =
       let n = numbers_of (held_of g) in
       let s = fits_of (held_of g) in
-      let rest = stored M fs vs k (frame_numbers * k + 1) (next_at fs k + 1) (omega arith) (waiting_of_lem (held_of g)) in
+      let rest = stored M fs vs k (frame_numbers * k + 1) (next_at fs k + 1) (omega arith) (waiting_of (held_of g)) in
       let frame = passed_frame M fs vs k n.frame in
       let fits = fits_after M 1 top top.stack w s top_left (omega (arith, s.room)) s.values_present in (
         ap₂ (λ (x : Frame) (xs : List Frame). x ∷ xs) frame rest.0,

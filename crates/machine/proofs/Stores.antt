@@ -83,8 +83,8 @@ pub record Numbers (M : Model) (fs vs : List ℕ) (k : ℕ) : Type 0 where
 pub fits_of : {M : Model} {fs vs : List ℕ} {k : ℕ} → Held M fs vs k → FrameFits M 0 (frame_of M fs vs k)
 fits_of (held l s w) = s
 
-pub waiting_of_lem : {M : Model} {fs vs : List ℕ} {k : ℕ} → Held M fs vs k → Waiting M fs vs k
-waiting_of_lem (held l s w) = w
+pub waiting_of : {M : Model} {fs vs : List ℕ} {k : ℕ} → Held M fs vs k → Waiting M fs vs k
+waiting_of (held l s w) = w
 
 pub waits_of : {M : Model} {fs vs : List ℕ} {n : ℕ} → Waiting M fs vs n → Waits M (callers_of M fs vs n)
 waits_of (waiting p q l w) = w

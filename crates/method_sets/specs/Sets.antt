@@ -5,9 +5,7 @@ use Rattle.rules.specs.Bounded.{sum}
 use Rattle.rules.specs.Layout.{places, max_classes, max_methods}
 use Rattle.rules.specs.Model.{Model}
 use Rattle.rules.specs.Bits.{bit_at, in_set}
-use Rattle.rules.specs.Subclass.{above}
 use Rattle.rules.specs.Scratch.{class_under, entry_at}
-use Rattle.subclasses.specs.Matrix.{above_at}
 
 -- the words of a set, and of a table of sets
 abbrev pub set_words : ℕ
@@ -49,17 +47,9 @@ pub record First (set : List ℕ) (r : ℕ) : Type 0 where
   pub member : r < max_methods → in_set set 0 r ≡ true
   pub before : (i : ℕ) → i < r → in_set set 0 i ≡ false
 
--- A method with its weight above its number: over all places, how many classes its specialiser is under. An unused place weighs what class 0 does, the same
--- for all methods of a function.
+-- A method with its weight above its number: the sum of its specialisers.
 unfoldable pub weighed : Model → ℕ → ℕ
-weighed M m = sum (λ p. length (above M (get_or (M.specialisers m) p 0))) places * max_methods + m
-
--- the number of classes above each of the first n, by the entries of a scratch; and above each class of a model
-abbrev pub EntryCounts : List ℕ → ℕ → List ℕ → Type 0
-EntryCounts s n counts = (c : ℕ) → c < n → get_or counts c 0 ≡ length (above_at s c)
-
-abbrev pub ClassCounts : Model → List ℕ → Type 0
-ClassCounts M counts = (c : ℕ) → c < M.classes → get_or counts c 0 ≡ length (above M c)
+weighed M m = sum (λ p. get_or (M.specialisers m) p 0) places * max_methods + m
 
 -- the method at a position of an order
 unfoldable pub method_at : List ℕ → ℕ → ℕ

@@ -1,4 +1,4 @@
--- What a call begins with: 1 to 9, 28 and 19, or the opened bundle with its matrix.
+-- What a call begins with: 1 to 9 and 19, or the opened bundle with its matrix.
 -- Assumes nothing.
 use Rattle.std.specs.Prelude.{ℕ, ◌≡◌, List, [], length}
 use Rattle.rules.specs.Numbers as numbers

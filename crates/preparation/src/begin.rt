@@ -6,7 +6,7 @@ use bundle_rules::opening::open;
 use layout::bundle::Bundle;
 use subclasses::matrix::{BYTES, fill};
 
-// The opened bundle, with its matrix in the scratch; 1 to 9 or 28; or 19.
+// The opened bundle, with its matrix in the scratch; 1 to 9; or 19.
 #[derive(Drop)]
 pub enum Beginning {
     Ready(Bundle),

@@ -89,7 +89,7 @@ abbrev pub B : Lifetime → Lft → RattleType
 B ℓ κ = T.the_row (at_lft ℓ κ)
 
 abbrev pub OfReader : Lifetime → Lft → BodyReader → Fml
-OfReader ℓ κ r = (B ℓ κ).own r (T'.lowered r ∷ [])
+OfReader ℓ κ r = (B ℓ κ).own_val r (T'.lowered r ∷ [])
 
 module _ {M : Type 1} {𝓤 : Ura M} (𝓛 : Logic 𝓤) (κ : Lft) (s : Bor (List ℕ)) where
   -- a `&[u8]` is Copy
@@ -116,10 +116,10 @@ module _ {M : Type 1} {𝓤 : Ura M} (𝓛 : Logic 𝓤) (κ : Lft) (s : Bor (Li
 -- Where a call returns: of the result what it owns and its relation, the tokens, what is said of last values, and what the callee ensures.
 module _ {M : Type 1} {𝓤 : Ura M} {𝓛 : Logic 𝓤} {K : Type 0} {Γ : List (Item 𝓤)} {G : Goal 𝓤 𝓛.H} where
   pub returned : K → Soaks G → (toks : Item 𝓤) (R : RattleType) {X : Type 0} (last : X → Fml) (Φ : R.Denot → X → Type 0) (u : Val)
-      → ((r : R.Denot) (ws : X) → Φ r ws → Is R r (u ∷ []) → Seq K 𝓛 (‵ (R.own r (u ∷ [])) ∷ toks ∷ ‵ (last ws) ∷ Γ) G)
-      → Seq K 𝓛 (raw (mean 𝓛 (later (some (λ (r : R.Denot). (toks ⊛ ‵ (R.own r (u ∷ []))) ⊛ some (λ (ws : X). ‵ (last ws) ⊛ raw (fact 𝓤 (Φ r ws))))))) ∷ Γ) G
+      → ((r : R.Denot) (ws : X) → Φ r ws → Is R r (u ∷ []) → Seq K 𝓛 (‵ (R.own_val r (u ∷ [])) ∷ toks ∷ ‵ (last ws) ∷ Γ) G)
+      → Seq K 𝓛 (raw (mean 𝓛 (later (some (λ (r : R.Denot). (toks ⊛ ‵ (R.own_val r (u ∷ []))) ⊛ some (λ (ws : X). ‵ (last ws) ⊛ raw (fact 𝓤 (Φ r ws))))))) ∷ Γ) G
   returned t z toks R {X} last Φ u k =
-      use1 𝓛 (later (some (λ (r : R.Denot). (toks ⊛ ‵ (R.own r (u ∷ []))) ⊛ some (λ (ws : X). ‵ (last ws) ⊛ raw (fact 𝓤 (Φ r ws)))))) (id⊢ 𝓤 _) $ await t z $ pick t (λ r.
+      use1 𝓛 (later (some (λ (r : R.Denot). (toks ⊛ ‵ (R.own_val r (u ∷ []))) ⊛ some (λ (ws : X). ‵ (last ws) ⊛ raw (fact 𝓤 (Φ r ws)))))) (id⊢ 𝓤 _) $ await t z $ pick t (λ r.
       split t $ move t (1 ∷ []) $ pick t (λ ws. split t $ move t (1 ∷ []) $ heard t (Φ r ws) (λ e. move t (1 ∷ []) $ split t $ move t (1 ∷ []) $
       peeks t R (Is R) (shows 𝓛 R) r (u ∷ []) (λ is. k r ws e is))))
 

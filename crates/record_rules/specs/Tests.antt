@@ -9,13 +9,13 @@ use Rattle.rules.specs.Layout.{extent, code_section, instruction_rule, rises, se
 abbrev pub from : List ℕ → ℕ → ℕ → ℕ
 from b at i = byte b (at + i)
 
--- parents are among so many classes, and each is above the one before it (M 2.4)
+-- a parent is lower than its class, and above the parent before it (M 2.4)
 abbrev pub parents_rule : ℕ → List ℕ → Bool
-parents_rule classes xs = every (λ p. ltb p classes) xs && rises xs
+parents_rule c xs = every (λ p. ltb p c) xs && rises xs
 
--- the same of parent i alone
+-- the same of parent i: it is lower than the class, and above the parent before it
 unfoldable pub parent_rule : (ℕ → ℕ) → ℕ → ℕ → Bool
-parent_rule f classes i = ltb (f i) classes && (eqb i 0 || ltb (f (i - 1)) (f i))
+parent_rule f c i = ltb (f i) c && (eqb i 0 || ltb (f (i - 1)) (f i))
 
 -- what `method_rule` says of the body alone
 abbrev pub body_rule : List ℕ → ℕ → Bool

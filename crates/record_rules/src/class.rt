@@ -1,4 +1,4 @@
-// The rule of a class record: its kind, and a list of parents that are there and rise.
+// The rule of a class record: its kind, and a list of lower parents that rises.
 ghost use Rattle.std.specs.Prelude.{◌≡◌, not, ◌+◌, ◌<◌, ◌≤◌, length};
 ghost use Rattle.rules.specs.Bounded.{sum};
 ghost use Rattle.rules.specs.Bytes.{part};
@@ -11,13 +11,13 @@ use layout::bundle::Bundle;
 use layout::bytes::byte_at;
 use layout::record::{filler, kind, list_offset, parent_count};
 
-// Whether parent i is none of so many classes, or not above the parent before it.
-fn parent_breaks(bytes: &[u8], at: usize, classes: usize, i: usize) -> bool
+// Whether parent i is not below class c, or not above the parent before it.
+fn parent_breaks(bytes: &[u8], at: usize, c: usize, i: usize) -> bool
     requires { at + i < length bytes.now }
-    ensures { result ≡ not (parent_rule (from bytes.now at) classes i) }
+    ensures { result ≡ not (parent_rule (from bytes.now at) c i) }
 {
     let p = byte_at(bytes, at + i);
-    if classes <= p {
+    if c <= p {
         return true;
     }
     if i == 0 {
@@ -27,13 +27,13 @@ fn parent_breaks(bytes: &[u8], at: usize, classes: usize, i: usize) -> bool
 }
 
 // Whether one of the parents from byte `at` on breaks the rule.
-fn parents_break(bytes: &[u8], at: usize, size: usize, classes: usize) -> bool
+fn parents_break(bytes: &[u8], at: usize, size: usize, c: usize) -> bool
     requires { at + size ≤ length bytes.now }
-    ensures { result ≡ not (parents_rule classes (part bytes.now at size)) }
+    ensures { result ≡ not (parents_rule c (part bytes.now at size)) }
 {
     let mut i = 0;
     while i < size {
-        if parent_breaks(bytes, at, classes, i) {
+        if parent_breaks(bytes, at, c, i) {
             return true;
         }
         i += 1;
@@ -59,7 +59,7 @@ pub fn class_breaks(bytes: &[u8], b: Bundle, c: usize, before: usize) -> bool
     if misplaced(start, size, before, b.parent_len, b.classes, c) {
         return true;
     }
-    if parents_break(bytes, b.parent_at + start, size, b.classes) {
+    if parents_break(bytes, b.parent_at + start, size, c) {
         return true;
     }
     if c == 0 {

@@ -21,7 +21,6 @@ pub layout_values_lem : (f : LayoutFinding) → eight (get_or (layout_values f) 
 layout_values_lem finding.Length = refl
 layout_values_lem finding.Directory = refl
 layout_values_lem finding.Counts = refl
-layout_values_lem (finding.Cycle c) = refl
 layout_values_lem (finding.Record rule k) = refl
 
 -- so has a refusal

@@ -52,14 +52,14 @@ impl Reply {
         }
     }
 
-    // 1 to 9 and 28, behind 3 with the record.
+    // 1 to 9, from 4 on with the record.
     fn of_layout(found: LayoutFinding) -> Reply
         ensures { result ≡ numbered (layout_number found) (layout_values found) }
     {
         Reply::pair(found.number(), found.record(), 0)
     }
 
-    // 1 to 9, 28, 18, 19 and 20.
+    // 1 to 9, 18, 19 and 20.
     pub fn of_refusal(refusal: Refusal) -> Reply
         ensures { result ≡ numbered (refusal_number refusal) (refusal_values refusal) }
     {

@@ -1,22 +1,21 @@
 -- Laws of the bits of a number.
 -- Assumes nothing.
 use Prim.Native.Nat.{ℕ, zero, suc, ◌+◌, ◌-◌, ◌*◌, ◌/◌, ◌%◌, ◌^◌, ◌<◌}
-use native.Mathlib.Nat.{zero-add, add-zero, add_comm, pow-suc, zero-div, mod-lt, eq-or-lt_of_le}
+use native.Mathlib.Nat.{zero-add, add-zero, add_comm, pow-suc, zero-div, eq-or-lt_of_le}
 use native.Mathlib.Numerals.{add-one}
 use native.Mathlib.Omega.{arith}
 use mathlib.Core.Path.{◌≡◌, refl, sym, ap, ap₂, ◌∙◌}
 use mathlib.Core.Bool.{Bool, true, false, ◌&&◌, ◌||◌}
 use mathlib.Core.Logic.{◌⊎◌, inl, inr}
-use mathlib.Core.List.{List, [], ◌∷◌}
+use mathlib.Core.List.{List}
 use lib.Bits.{bit_and, bit_or, and_shr, and_mod, or_shr, or_mod}
-use lib.Count.{ones, ones_cat}
-use lib.Pow.{pow_pos, shr-shr, high, low, field, mod-mod-pow, mod-pow-add}
+use lib.Pow.{shr-shr, high, low, field, mod-mod-pow, mod-pow-add}
 use lib.Dec.{eqb}
-use lib.ListN.{length, get_or, length-append}
+use lib.ListN.{get_or}
 use borrow.Author.Tests.{eqb-true, eq-eqb, ne_eqb}
-use Rattle.rules.specs.Bounded.{upto, sum, keep}
+use Rattle.rules.specs.Bounded.{sum}
 use Rattle.rules.specs.Bits.{bit, bit_at, byte_of, in_set}
-use Rattle.rules.proofs.Lists.{test, agree, keep_upto_hit, keep_upto_miss}
+use Rattle.rules.proofs.Lists.{agree}
 
 -- a bit is 1 exactly where the test passes
 pub bit_test : (t : Bool) → eqb (bit t) 1 ≡ t
@@ -171,43 +170,3 @@ pub either_set : (set other new : List ℕ) (at n : ℕ) → ((w : ℕ) → w < 
     → (i : ℕ) → i < 64 * n → in_set new 0 i ≡ (in_set set 0 i || in_set other at i)
 unfolding in_set
 either_set set other new at n f i h = simp zero-add (rw (f (i / 64) (omega arith)) (bit_or_lem (get_or set (i / 64) 0) (get_or other (at + i / 64) 0) (i % 64)))
-
--- How many numbers pass a test: of none, of one more, and of n more,
-pub count_none : (p : ℕ → Bool) → length (keep p (upto 0)) ≡ 0
-unfolding upto keep
-count_none p = refl
-
-count_next : (p : ℕ → Bool) (n : ℕ) → length (keep p (upto (suc n))) ≡ length (keep p (upto n)) + bit (p n)
-unfolding bit
-count_next p n = rw (← add-one n) (go (test (p n)))
-  where
-    go : (p n ≡ true) ⊎ (p n ≡ false) → length (keep p (upto (n + 1))) ≡ length (keep p (upto n)) + bit (p n)
-    go (inl e) = rw (e, keep_upto_hit p n e) (length-append (keep p (upto n)) (n ∷ []))
-    go (inr e) = rw (e, keep_upto_miss p n e) (omega arith)
-
-pub count_more : (p : ℕ → Bool) (m n : ℕ) → length (keep p (upto (m + n))) ≡ length (keep p (upto m)) + length (keep (λ i. p (m + i)) (upto n))
-count_more p m zero = rw (add-zero m, count_none (λ i. p (m + i))) (omega arith)
-count_more p m (suc n) =
-    let e : m + suc n ≡ suc (m + n) = omega arith in
-    rw e (omega (arith, count_next p (m + n), count_next (λ i. p (m + i)) n, count_more p m n))
-
--- and the ones among the lowest n bits of a number are as many as the numbers of those bits.
-digit_ones : (d : ℕ) → d < 2 → ones d ≡ bit (eqb d 1)
-unfolding ones bit
-digit_ones zero h = refl
-digit_ones (suc zero) h = refl
-digit_ones (suc (suc d)) h = absurd (omega arith)
-
-pub ones_count : (x n : ℕ) → ones (x % 2 ^ n) ≡ length (keep (bit_at x) (upto n))
-unfolding bit_at bit
-ones_count x zero =
-    let e : x % 1 ≡ 0 = omega arith in
-    ap ones e ∙ digit_ones 0 (omega arith) ∙ sym (count_none (bit_at x))
-ones_count x (suc n) =
-    let e : suc n ≡ 1 + n = omega arith in
-    ap (λ (k : ℕ). ones (x % 2 ^ k)) e
-    ∙ ap ones (mod-pow-add x 1 n)
-    ∙ ones_cat n (x / 2 ^ n % 2) (x % 2 ^ n) (mod-lt x (pow_pos n))
-    ∙ ap₂ ◌+◌ (digit_ones (x / 2 ^ n % 2) (omega arith)) (ones_count x n)
-    ∙ add_comm (bit (bit_at x n)) (length (keep (bit_at x) (upto n)))
-    ∙ sym (count_next (bit_at x) n)

@@ -1,19 +1,17 @@
--- What a call that takes scratch comes to: it is refused by 1 to 9, 28 or 19, or it answers over the model.
+-- What a call that takes scratch comes to: it is refused by 1 to 9 or 19, or it answers over the model.
 -- Assumes nothing.
-use Prim.Native.Nat.{ℕ, ◌<◌}
+use Prim.Native.Nat.{ℕ, ◌≤◌, ◌<◌}
 use native.Mathlib.Omega.{arith}
 use mathlib.Core.Path.{◌≡◌, refl, sym, ◌∙◌}
 use mathlib.Core.Bool.{Bool, true, false, false≢true}
 use mathlib.Core.Logic.{◌⊎◌, inl, inr}
 use mathlib.Core.List.{List, []}
-use lib.Dec.{leb, eqb}
-use borrow.Author.Tests.{leb-true, eqb-true}
+use lib.Dec.{leb}
 use Rattle.rules.specs.Layout.{Answer, gives, refuses, require, opening}
 use Rattle.rules.specs.Model.{Model, model_of, Wellformed}
 use Rattle.rules.specs.Calls.{on_opening, when_open, with_scratch}
 use Rattle.rules.specs.Scratch.{scratch_bytes}
-use Rattle.rules.proofs.Lists.{or_cases}
-use Rattle.rules.proofs.Opening.{OfOpening, opening_number}
+use Rattle.rules.proofs.Opening.{opening_number}
 use Rattle.rules.proofs.Wellformed.{opened_wellformed}
 
 -- equal answers give the same, and equal refusals have one number
@@ -27,7 +25,7 @@ module _ {A : Type 0} (b : List ℕ) (scratch : ℕ) (answer : Model → Answer 
   -- the two ways
   abbrev Called : Answer A → Type 0
   Called r =
-      ((number : ℕ) × (vs : List ℕ) × (OfOpening number ⊎ (number ≡ 19)) × (r ≡ refuses number vs))
+      ((number : ℕ) × (vs : List ℕ) × ((number ≤ 9) ⊎ (number ≡ 19)) × (r ≡ refuses number vs))
       ⊎ (Wellformed (model_of b) × (answer (model_of b) ≡ r))
 
   called : Called (with_scratch b scratch answer)
@@ -54,12 +52,8 @@ module _ {A : Type 0} (b : List ℕ) (scratch : ℕ) (answer : Model → Answer 
       → Wellformed (model_of b) × (answer (model_of b) ≡ refuses number vs)
   called_refuses number vs low high e = go called
     where
-      between : {early : ℕ} → (leb early 9 ≡ true) ⊎ (eqb early 28 ≡ true) → early ≡ number → ⊥
-      between {early} (inl h) same = let l = leb-true early 9 h in omega (arith, l, low, same)
-      between {early} (inr h) same = let l = eqb-true early 28 h in omega (arith, l, high, same)
-
       go : Called (with_scratch b scratch answer) → Wellformed (model_of b) × (answer (model_of b) ≡ refuses number vs)
-      go (inl (early, us, inl h, q)) = absurd (between (or_cases (leb early 9) (eqb early 28) h) (refuses_number (sym q ∙ e)))
+      go (inl (early, us, inl h, q)) = absurd (omega (arith, h, low, refuses_number (sym q ∙ e)))
       go (inl (early, us, inr h, q)) = absurd (omega (arith, h, high, refuses_number (sym q ∙ e)))
       go (inr (w, q)) = (w, q ∙ e)
 

@@ -1,7 +1,7 @@
 -- Laws of `specs/Bounded`: what a passed or failed test over a list says of its elements, by membership and by place, and back.
 -- Assumes nothing.
 use Prim.Native.Nat.{ℕ, zero, suc, ◌+◌, ◌<◌, ◌≤◌}
-use native.Mathlib.Nat.{add-zero, not-suc-le-zero, le_of_suc-le-suc, eq-or-lt_of_le}
+use native.Mathlib.Nat.{not-suc-le-zero, le_of_suc-le-suc, eq-or-lt_of_le}
 use native.Mathlib.Numerals.{add-one}
 use native.Mathlib.Omega.{arith}
 use mathlib.Core.Path.{◌≡◌, refl, sym, ap, ap₂, subst, ◌∙◌}
@@ -212,11 +212,6 @@ module _ {A : Type 0} where
   none_first p [] h = refl
   none_first p (y ∷ ys) h = first_miss p y ys (h y (Memᴰ.head refl)) ∙ none_first p ys (λ x m. h x (Memᴰ.tail m))
 
-  pub first_agree : (p q : A → Bool) (xs : List A) → ((x : A) → Memᴰ x xs → p x ≡ q x) → first p xs ≡ first q xs
-  unfolding first
-  first_agree p q [] h = refl
-  first_agree p q (x ∷ xs) h = rw (h x (Memᴰ.head refl), first_agree p q xs (λ y m. h y (Memᴰ.tail m)))
-
   -- a search over two lists is one over the second where the first has nothing
   pub first_append_none : (p : A → Bool) (xs ys : List A) → first p xs ≡ none → first p (xs ++ ys) ≡ first p ys
   first_append_none p [] ys e = refl
@@ -307,13 +302,6 @@ unfolding upto keep
 keep_upto_miss p n e =
     rw (add-one n, keep_append) (ap (λ (l : List ℕ). keep p (upto n) ++ l) (keep_miss p n [] e) ∙ append-nil (keep p (upto n)))
 
--- where none passes from n on, those below n are all that are kept
-pub keep_upto_end : (p : ℕ → Bool) (n more : ℕ) → ((k : ℕ) → n ≤ k → p k ≡ false) → keep p (upto (n + more)) ≡ keep p (upto n)
-keep_upto_end p n zero h = rw (add-zero n)
-keep_upto_end p n (suc more) h =
-    let e : n + suc more ≡ n + more + 1 = omega arith in
-    rw e (keep_upto_miss p (n + more) (h (n + more) (omega arith)) ∙ keep_upto_end p n more h)
-
 pub keep_length : {A : Type 0} (p : A → Bool) (xs : List A) → length (keep p xs) ≤ length xs
 unfolding keep
 keep_length p [] = omega arith
@@ -373,9 +361,6 @@ pub length_upto : (n : ℕ) → length (upto n) ≡ n
 unfolding upto
 length_upto zero = refl
 length_upto (suc n) = length-append (upto n) (n ∷ []) ∙ omega (arith, length_upto n)
-
-pub keep_upto_length : (p : ℕ → Bool) (n : ℕ) → length (keep p (upto n)) ≤ n
-keep_upto_length p n = omega (arith, keep_length p (upto n), length_upto n)
 
 pub get_d_upto : (n k d : ℕ) → k < n → get_or (upto n) k d ≡ k
 unfolding upto

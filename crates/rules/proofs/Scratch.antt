@@ -1,25 +1,25 @@
 -- What the scratch says once the matrix is written into it: an entry for each two numbers below the limit on classes, which tells whether both are
 -- classes and the one is under the other.
 -- Assumes nothing.
-use Prim.Native.Nat.{ℕ, ◌+◌, ◌-◌, ◌*◌, ◌/◌, ◌%◌, ◌≤◌, ◌<◌}
+use Prim.Native.Nat.{ℕ, ◌+◌, ◌*◌, ◌/◌, ◌%◌, ◌≤◌, ◌<◌}
 use native.Mathlib.Omega.{arith}
 use mathlib.Core.Path.{◌≡◌, refl, sym, ap, ap₂, ◌∙◌}
-use mathlib.Core.Bool.{Bool, true, false, cond, ◌&&◌, ◌||◌, and-false}
+use mathlib.Core.Bool.{Bool, true, false, cond, ◌&&◌, ◌||◌}
 use mathlib.Core.Logic.{◌⊎◌, inl, inr}
 use mathlib.Core.List.{List}
 use lib.Dec.{eqb, ltb, leb}
 use lib.ListN.{length, get_or}
 use borrow.Author.Tests.{lt-ltb, le-ltb, ltb-true, ltb-false, le-leb}
-use Rattle.rules.specs.Bounded.{upto, any, keep}
+use Rattle.rules.specs.Bounded.{any}
 use Rattle.rules.specs.Layout.{max_classes, Answer, gives, refuses, opening}
 use Rattle.rules.specs.Model.{Model, Wellformed, model_of}
-use Rattle.rules.specs.Subclass.{Under, subclass, above}
+use Rattle.rules.specs.Subclass.{Under, subclass}
 use Rattle.rules.specs.Bits.{bit_at}
 use Rattle.rules.specs.Scratch.{scratch_bytes, matrix_row, class_under, entry_at, matrix_byte}
 use Rattle.rules.specs.Calls.{with_scratch, overwrite, scratch_on, scratch_after}
-use Rattle.rules.proofs.Lists.{test, and_left, and_right, any_agree, keep_agree, keep_upto_end, upto_below}
+use Rattle.rules.proofs.Lists.{test, and_left, and_right, any_agree}
 use Rattle.rules.proofs.Wellformed.{opened_wellformed}
-use Rattle.rules.proofs.Subclass.{subclass_under, under_subclass, subclass_present, parent_class, subclass_parents}
+use Rattle.rules.proofs.Subclass.{subclass_under, under_subclass, subclass_not_above, parent_lower, subclass_parents}
 use Rattle.rules.proofs.Bits.{byte_bit}
 use Rattle.rules.proofs.Overwrite.{overwrite_at, overwrite_later}
 
@@ -40,19 +40,6 @@ pub absent_lower : (M : Model) (a c : ℕ) → M.classes ≤ a → class_under M
 unfolding class_under
 absent_lower M a c h = rw (le-ltb a M.classes h)
 
-absent_upper : (M : Model) (a c : ℕ) → M.classes ≤ c → class_under M a c ≡ false
-unfolding class_under
-absent_upper M a c h = rw (le-ltb c M.classes h, and-false (ltb a M.classes))
-
--- so the numbers that the row of a class has are those of the classes that it is under
-pub row_above : (M : Model) (a n : ℕ) → a < M.classes → M.classes ≤ n → keep (class_under M a) (upto n) ≡ above M a
-unfolding class_under above
-row_above M a n h l =
-    let e : n ≡ M.classes + (n - M.classes) = omega arith in
-    rw e (keep_upto_end (class_under M a) M.classes (n - M.classes) (absent_upper M a))
-    ∙ keep_agree (class_under M a) (subclass M a) (upto M.classes)
-    (λ c m. rw (lt-ltb a M.classes h, lt-ltb c M.classes (upto_below M.classes m)))
-
 module _ (M : Model) (w : Wellformed M) where
   -- of a class the subclass test: no class is under a number that is none
   pub class_under_lem : (a c : ℕ) → a < M.classes → class_under M a c ≡ subclass M a c
@@ -62,7 +49,7 @@ module _ (M : Model) (w : Wellformed M) where
       go : (ltb c M.classes ≡ true) ⊎ (ltb c M.classes ≡ false) → (subclass M a c ≡ true) ⊎ (subclass M a c ≡ false)
           → (ltb c M.classes && subclass M a c) ≡ subclass M a c
       go (inl e) s = rw e
-      go (inr e) (inl s) = absurd (omega (arith, ltb-false c M.classes e, subclass_present M w a c h s))
+      go (inr e) (inl s) = absurd (omega (arith, ltb-false c M.classes e, subclass_not_above M w a c h s))
       go (inr e) (inr s) = rw (e, s)
 
   -- which it is by itself, and by what its parents are under
@@ -71,7 +58,7 @@ module _ (M : Model) (w : Wellformed M) where
       class_under_lem a c h
       ∙ subclass_parents M w a c h
       ∙ ap (λ (t : Bool). eqb a c || t)
-      (any_agree (λ p. subclass M p c) (λ p. class_under M p c) (M.parents a) (λ p m. sym (class_under_lem p c (parent_class M w h m))))
+      (any_agree (λ p. subclass M p c) (λ p. class_under M p c) (M.parents a) (λ p m. sym (class_under_lem p c (omega (arith, parent_lower M w h m)))))
 
 module _ (b scratch counts : List ℕ) (opened : opening b ≡ gives counts) (long : scratch_bytes ≤ length scratch) (a c : ℕ)
     (h : a < max_classes) (k : c < max_classes) where

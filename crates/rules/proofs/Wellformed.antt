@@ -11,8 +11,7 @@ use lib.ListN.{length, take, get_or}
 use lib.Seq.{length-take-le, take_all}
 use borrow.Author.Tests.{leb-true, ltb-true, eqb-true, not-true, lt-leb, le-leb, eq-eqb}
 use Rattle.rules.specs.Bounded.{upto, sum, every, any, matching}
-use Rattle.rules.specs.Inheritance.{inherits}
-use Rattle.rules.specs.Layout.{gives, refuses, require, opening, size_rule, limit_rule, tuple_rule, class_count, function_count, signature_count, method_count, max_classes, max_functions, max_signatures, max_methods, places, list_offset, list_length, parents_of, class_rule, cycle_rule, arity_of, function_rule, sig_function_of, sig_tuple_of, sig_result_of, signature_rule, function_of, specialiser_tuple_of, declared_tuple_of, result_of, body_offset, body_length, code_of, method_rule, twins, twin_rule, instruction_rule, every_pair, code_rule}
+use Rattle.rules.specs.Layout.{gives, refuses, require, opening, size_rule, limit_rule, tuple_rule, class_count, function_count, signature_count, method_count, max_classes, max_functions, max_signatures, max_methods, places, list_offset, list_length, parents_of, class_rule, arity_of, function_rule, sig_function_of, sig_tuple_of, sig_result_of, signature_rule, function_of, specialiser_tuple_of, declared_tuple_of, result_of, body_offset, body_length, code_of, method_rule, twins, twin_rule, instruction_rule, every_pair, code_rule}
 use Rattle.rules.specs.Model.{Model, Wellformed, decode, instructions, model_of, present, operand_rule}
 use Rattle.rules.proofs.Lists.{and_left, and_right, and_both, any_from, below_upto, matching_from}
 use Rattle.rules.proofs.Opening.{Rules, opened_rules}
@@ -58,18 +57,13 @@ beq_same false false e = refl
 
 -- what the rule of a class says
 module _ (b : List ℕ) (c : ℕ) (rule : class_rule b c ≡ true) where
-  pub class_parents : every (λ p. ltb p (class_count b)) (parents_of b c) ≡ true
+  class_parents : every (λ p. ltb p c) (parents_of b c) ≡ true
   unfolding class_rule
   class_parents = search (and_left, and_right)
 
   class_root : eqb c 0 ≡ eqb (list_length b c) 0
   unfolding class_rule
   class_root = beq_same (eqb c 0) (eqb (list_length b c) 0) (search (and_left, and_right))
-
--- what 28 says of a class
-pub class_acyclic : (b : List ℕ) (c : ℕ) → cycle_rule b c ≡ true → inherits (parents_of b) (class_count b) c c ≡ false
-unfolding cycle_rule
-class_acyclic b c rule = not-true (inherits (parents_of b) (class_count b) c c) rule
 
 -- what the rule of a signature says
 module _ (b : List ℕ) (s : ℕ) (rule : signature_rule b s ≡ true) where
@@ -166,8 +160,8 @@ module _ (b : List ℕ) (r : Rules b) where
       let empty : list_length b 0 ≡ 0 = eqb-true (list_length b 0) 0 (sym (class_root b 0 (r.of_class 0 h)) ∙ eq-eqb 0 0 refl) in
       sym (take_all 0 (parents_of b 0) (omega (arith, parents_length b r 0 h)))
 
-  parents_listed : (c : ℕ) → c < class_count b → 0 < c → 0 < length (parents_of b c)
-  parents_listed c h positive =
+  parents_present : (c : ℕ) → c < class_count b → 0 < c → 0 < length (parents_of b c)
+  parents_present c h positive =
       let root : list_length b c ≡ 0 → c ≡ 0 = λ e. eqb-true c 0 (class_root b c (r.of_class c h) ∙ eq-eqb (list_length b c) 0 e) in
       rw (parents_length b r c h) (pos_of_ne-zero (λ e. omega (arith, root e)))
 
@@ -182,10 +176,9 @@ module _ (b : List ℕ) (r : Rules b) where
         functions_limit = leb-true (function_count b) max_functions (search (and_left, and_right));
         signatures_limit = leb-true (signature_count b) max_signatures (search (and_left, and_right));
         methods_limit = leb-true (method_count b) max_methods (search (and_left, and_right));
-        parents_present = λ c h. class_parents b c (r.of_class c h);
-        no_cycle = λ c h. class_acyclic b c (r.of_cycle c h);
+        parents_lower = λ c h. class_parents b c (r.of_class c h);
         root_alone = parents_none some;
-        parents_some = parents_listed;
+        parents_some = parents_present;
         arity_limit = arity_within;
         sig_function_lem = λ s h. signature_function b s (r.of_signature s h);
         sig_places = λ s h. used_length (sig_function_of b s) (signature_function b s (r.of_signature s h)) (sig_tuple_of b s) (sig_tuple_length b r s h);

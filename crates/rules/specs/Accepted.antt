@@ -28,7 +28,7 @@ accepted_in f tuple count M =
     require (run_rule M f tuple) numbers.absent
     (gives (accepted_by (verdict M) (is_covered M f (used M f tuple)) (run M f (used M f tuple) count).outcome))
 
--- the call: 1 to 9, 28, 19 and 18 as for a run
+-- the call: 1 to 9, 19 and 18 as for a run
 unfoldable pub accepted_call : List ℕ → ℕ → ℕ → List ℕ → ℕ → Answer Accepted
 accepted_call b scratch f tuple count = with_scratch b scratch (accepted_in f tuple count)
 

@@ -14,7 +14,7 @@ use Rattle.rules.specs.Bits.{bit}
 use Rattle.rules.specs.Ascii.{ascii}
 use Rattle.rules.specs.Chart.{chart_call, buffer_after}
 use Rattle.rules.specs.Rough.{Rough, one, may_fail, several, rough_call}
-use Rattle.rules.specs.Samples.{chart3, chart4, chart5, late_parent, loop, one_class, abstract_argument, narrow_declared, wide_result, two_values, abstract_new, no_licence, loose_result, twenty_three_bytes, directory_gap, empty_sections, absent_parent, own_parent, class_cycle, four_arguments, absent_result, empty_body, twin_methods, unknown_operation, no_method, three_faults, three_rivals, several_broken, upper_classes, exact_match, resend, resend_loop, resend_operand, no_overridden, ambiguous_resend, narrow_target}
+use Rattle.rules.specs.Samples.{chart3, chart4, chart5, loop, one_class, abstract_argument, narrow_declared, wide_result, two_values, abstract_new, no_licence, loose_result, twenty_three_bytes, directory_gap, empty_sections, own_parent, four_arguments, absent_result, empty_body, twin_methods, unknown_operation, no_method, three_faults, three_rivals, several_broken, upper_classes, exact_match, resend, resend_loop, resend_operand, no_overridden, ambiguous_resend, narrow_target}
 
 -- A call on a bundle, with what it comes to. Scratch, row and buffer are large enough, but for `checks_in`, `types_in` and `charts_in`, which give their length.
 pub data Case : Type 0 where
@@ -108,12 +108,6 @@ worked =
     ∷ finds exact_match 0 (2 ∷ 1 ∷ 0 ∷ []) (otherwise 0)
     ∷ finds exact_match 0 (3 ∷ 3 ∷ 0 ∷ []) (otherwise 1)
     ∷ finds exact_match 1 (0 ∷ 0 ∷ 0 ∷ []) (exactly 2)
-    ∷ opens late_parent (gives (8 ∷ 1 ∷ 1 ∷ 4 ∷ []))
-    ∷ asks late_parent 1 0 (gives heir)
-    ∷ asks late_parent 2 1 (gives neither)
-    ∷ finds late_parent 0 (1 ∷ 3 ∷ 0 ∷ []) (exactly 3)
-    ∷ checks late_parent (gives tt)
-    ∷ runs late_parent 0 (1 ∷ 3 ∷ 0 ∷ []) 1 (value 6) 1
     ∷ witnesses chart4 0 (2 ∷ 4 ∷ 0 ∷ []) (gives tt)
     ∷ witnesses chart3 0 (2 ∷ 4 ∷ 0 ∷ []) (refuses 11 (0 ∷ 0 ∷ 2 ∷ 4 ∷ 0 ∷ 1 ∷ 0 ∷ []))
     ∷ checks one_class (gives tt)
@@ -121,9 +115,7 @@ worked =
     ∷ opens twenty_three_bytes (refuses 1 [])
     ∷ opens directory_gap (refuses 2 [])
     ∷ opens empty_sections (refuses 3 [])
-    ∷ opens absent_parent (refuses 4 (1 ∷ []))
-    ∷ opens own_parent (refuses 28 (1 ∷ []))
-    ∷ opens class_cycle (refuses 28 (4 ∷ []))
+    ∷ opens own_parent (refuses 4 (1 ∷ []))
     ∷ opens four_arguments (refuses 5 (1 ∷ []))
     ∷ opens absent_result (refuses 6 (0 ∷ []))
     ∷ opens empty_body (refuses 7 (0 ∷ []))
@@ -166,11 +158,9 @@ worked =
     ∷ types_in no_licence row_bytes 1 (0 ∷ 0 ∷ 0 ∷ []) (refuses 16 [])
     ∷ finds chart3 1 (1 ∷ 3 ∷ 0 ∷ []) (refuses 18 [])
     ∷ finds chart3 0 (1 ∷ 3 ∷ 1 ∷ []) (refuses 18 [])
-    ∷ checks_in class_cycle 0 (refuses 28 (4 ∷ []))
     ∷ checks_in chart4 2047 (refuses 19 [])
     ∷ checks_in chart4 2048 (gives tt)
     ∷ fills chart3 (1 ∷ 3 ∷ 7 ∷ 9 ∷ 25 ∷ 33 ∷ 97 ∷ 161 ∷ [])
-    ∷ fills late_parent (1 ∷ 7 ∷ 5 ∷ 25 ∷ 17 ∷ 161 ∷ 193 ∷ 129 ∷ [])
     ∷ types_in chart5 127 0 (2 ∷ 4 ∷ 0 ∷ []) (refuses 20 [])
     ∷ charts chart3 0 0 "        1    2    3    4    6    7\n"
     ∷ charts chart3 0 1 "   1    -    -    2    0    -    -\n"

@@ -6,7 +6,6 @@ use Rattle.std.proofs.Math.Option.{Option, none, some}
 use Rattle.rules.specs.Numbers as numbers
 use Rattle.rules.specs.Bounded.{upto, sum, every, any, first, matching}
 use Rattle.rules.specs.Bytes.{byte, word, part}
-use Rattle.rules.specs.Inheritance.{inherits}
 
 -- A call's answer: what it gives, or the number by which it refuses (`Numbers`), with the values that are named beside it (M 11).
 pub data Answer (A : Type 0) : Type 0 where
@@ -151,19 +150,15 @@ unfoldable pub rises : List ℕ → Bool
 rises [] = true
 rises (x ∷ xs) = rises_above x xs
 
--- number 4: kind, filler and list of a class. Parents are classes that are there, and rise; class 0 alone has none (M 2.4)
+-- number 4: kind, filler and list of a class. Parents are lower than their class and rise; class 0 alone has none (M 2.4)
 unfoldable pub class_rule : List ℕ → ℕ → Bool
 class_rule b c =
     leb (kind_of b c) 1
     && eqb (byte b (class_at b c + 1)) 0
     && sequence_rule (list_offset b) (list_length b) (class_count b) (extent b parent_section) c
-    && every (λ p. ltb p (class_count b)) (parents_of b c)
+    && every (λ p. ltb p c) (parents_of b c)
     && rises (parents_of b c)
     && beq (eqb c 0) (eqb (list_length b c) 0)
-
--- number 28: a class does not inherit from itself (M 2.4)
-unfoldable pub cycle_rule : List ℕ → ℕ → Bool
-cycle_rule b c = not (inherits (parents_of b) (class_count b) c c)
 
 -- the function record, and number 5 (M 2.5)
 unfoldable pub arity_of : List ℕ → ℕ → ℕ
@@ -282,21 +277,19 @@ unfoldable pub require_each : {A : Type 0} → Option ℕ → ℕ → Answer A �
 require_each none number rest = rest
 require_each (some k) number rest = refuses number (k ∷ [])
 
--- Opening: the rules one after the other, 28 behind 4 and else in the order of their numbers, each decided for the whole bundle before the next (M 3.1). A bundle
--- that opens gives its four counts.
+-- Opening: the rules in the order of their numbers, each decided for the whole bundle before the next (M 3.1). A bundle that opens gives its four counts.
 unfoldable pub opening : List ℕ → Answer (List ℕ)
 opening b =
     require (size_rule b) numbers.bad_length
     (require (chain_rule b && whole_rule b) numbers.bad_directory
     (require (limit_rule b) numbers.bad_counts
     (require_each (lowest (class_rule b) (class_count b)) numbers.bad_class
-    (require_each (lowest (cycle_rule b) (class_count b)) numbers.class_cycle
     (require_each (lowest (function_rule b) (function_count b)) numbers.bad_function
     (require_each (lowest (signature_rule b) (signature_count b)) numbers.bad_signature
     (require_each (lowest (method_rule b) (method_count b)) numbers.bad_method
     (require_each (lowest (twin_rule b) (method_count b)) numbers.twin_method
     (require_each (lowest (code_rule b) (method_count b)) numbers.bad_code
-    (gives (class_count b ∷ function_count b ∷ signature_count b ∷ method_count b ∷ [])))))))))))
+    (gives (class_count b ∷ function_count b ∷ signature_count b ∷ method_count b ∷ []))))))))))
 
 -- The tuple of `places` numbers for a list of argument classes: unused places are 0.
 unfoldable pub padded : List ℕ → List ℕ

@@ -1,10 +1,8 @@
 pub mod Bounded
 pub mod Bytes
 pub mod Numbers
-pub mod Inheritance
 pub mod Layout
 pub mod Running
-pub mod LowerParents
 pub mod Model
 pub mod Subclass
 pub mod Lookup

@@ -1,8 +1,7 @@
 -- The opened bundle as the other rules see it: counts and accessors, argument places as lists. Only `model_of` knows the bytes.
 -- Assumes nothing.
-use Rattle.std.specs.Prelude.{ℕ, zero, suc, ◌<◌, ◌≤◌, ◌≡◌, Bool, true, false, List, [], ◌∷◌, ltb, eqb, length, take}
+use Rattle.std.specs.Prelude.{ℕ, zero, suc, ◌<◌, ◌≤◌, ◌≡◌, Bool, true, List, [], ◌∷◌, ltb, eqb, length, take}
 use Rattle.rules.specs.Bounded.{every}
-use Rattle.rules.specs.Inheritance.{inherits}
 use Rattle.rules.specs.Layout.{class_count, function_count, signature_count, method_count, kind_of, parents_of, arity_of, sig_function_of, sig_tuple_of, sig_result_of, function_of, specialiser_tuple_of, declared_tuple_of, result_of, code_of, max_classes, max_functions, max_signatures, max_methods, places}
 
 -- the four instructions, with an argument place, a class and a function; a resend has nothing beside it (M 2.8)
@@ -82,8 +81,7 @@ pub record Wellformed (M : Model) : Type 0 where
   pub functions_limit : M.functions ≤ max_functions
   pub signatures_limit : M.signatures ≤ max_signatures
   pub methods_limit : M.methods ≤ max_methods
-  pub parents_present : (c : ℕ) → c < M.classes → present M (M.parents c) ≡ true
-  pub no_cycle : (c : ℕ) → c < M.classes → inherits M.parents M.classes c c ≡ false
+  pub parents_lower : (c : ℕ) → c < M.classes → every (λ p. ltb p c) (M.parents c) ≡ true
   pub root_alone : M.parents 0 ≡ []
   pub parents_some : (c : ℕ) → c < M.classes → 0 < c → 0 < length (M.parents c)
   pub arity_limit : (f : ℕ) → f < M.functions → M.arity f ≤ places

@@ -15,10 +15,6 @@ bad_counts = 3
 abbrev pub bad_class : ℕ
 bad_class = 4
 
--- tried after 4 and before 5
-abbrev pub class_cycle : ℕ
-class_cycle = 28
-
 abbrev pub bad_function : ℕ
 bad_function = 5
 

@@ -1,20 +1,23 @@
 -- Ancestry (M 4): when a class is under a class, as a relation and as a test, and how a class stands to another.
 -- Assumes nothing.
-use Rattle.std.specs.Prelude.{ℕ, Bool, true, false, List, eqb}
-use Rattle.rules.specs.Bounded.{upto, keep, matching}
-use Rattle.rules.specs.Inheritance.{Reaches, reaches}
+use Rattle.std.specs.Prelude.{ℕ, zero, suc, Bool, true, false, ◌||◌, eqb}
+use mathlib.Core.List.{List, Memᴰ}
+use Rattle.rules.specs.Bounded.{any, matching}
 use Rattle.rules.specs.Model.{Model}
 
--- a class is under what it reaches by zero or more steps from child to parent (M 4.1)
-abbrev pub Under : Model → ℕ → ℕ → Type 0
-Under M = Reaches M.parents
+-- a class is under itself, and under what one of its parents is under (M 4.1)
+pub data Under (M : Model) : ℕ → ℕ → Type 0 where
+  itself : {a : ℕ} → Under M a a
+  parent : {a p b : ℕ} → Memᴰ p (M.parents a) → Under M p b → Under M a b
 
+-- the same in at most so many steps from child to parent
+unfoldable pub subclass_within : Model → ℕ → ℕ → ℕ → Bool
+subclass_within M zero a b = eqb a b
+subclass_within M (suc steps) a b = eqb a b || any (λ p. subclass_within M steps p b) (M.parents a)
+
+-- No line of parents passes more classes than there are.
 unfoldable pub subclass : Model → ℕ → ℕ → Bool
-subclass M a b = reaches M.parents M.classes a b
-
--- the classes that a class is under, in the order of their numbers
-unfoldable pub above : Model → ℕ → List ℕ
-above M c = keep (subclass M c) (upto M.classes)
+subclass M a b = subclass_within M M.classes a b
 
 -- each class of the first list is under the class at its place in the second
 unfoldable pub under : Model → List ℕ → List ℕ → Bool

@@ -26,7 +26,7 @@ use Rattle.subclasses.specs.Places.{Arguments, InMatrix, Comparable}
 pub filled_long : {M : Model} {s : List ℕ} → Filled M s → scratch_bytes ≤ length s
 filled_long (filled long entries) = long
 
-pub filled_entry : {M : Model} {s : List ℕ} → Filled M s → (a c : ℕ) → a < max_classes → c < max_classes → entry_at s a c ≡ class_under M a c
+filled_entry : {M : Model} {s : List ℕ} → Filled M s → (a c : ℕ) → a < max_classes → c < max_classes → entry_at s a c ≡ class_under M a c
 filled_entry (filled long entries) = entries
 
 -- each of a list of classes is one

@@ -1,26 +1,43 @@
 -- The rows of the subclass matrix as words of bits: how they are made from one another, and their bytes.
 -- Assumes nothing.
-use Prim.Native.Nat.{ℕ, ◌+◌, ◌*◌, ◌/◌, ◌%◌, ◌^◌, ◌≤◌, ◌<◌}
+use Prim.Native.Nat.{ℕ, zero, suc, ◌+◌, ◌*◌, ◌/◌, ◌%◌, ◌^◌, ◌≤◌, ◌<◌}
+use native.Mathlib.Nat.{zero-add, add-zero, one-mul}
 use native.Mathlib.Omega.{arith}
-use mathlib.Core.Path.{◌≡◌, refl, sym, ap, ap₂, ◌∙◌}
-use mathlib.Core.Bool.{Bool, true, false, ◌&&◌, ◌||◌, or-false, or_assoc, and-false}
+use mathlib.Core.Path.{◌≡◌, sym, ap, ap₂, ◌∙◌}
+use mathlib.Core.Bool.{Bool, true, false, ◌&&◌, ◌||◌, or-false, or_assoc}
 use mathlib.Core.Logic.{◌⊎◌, inl, inr}
-use mathlib.Core.List.{List, Memᴰ}
+use mathlib.Core.List.{List}
 use lib.Dec.{eqb, ltb}
-use lib.ListN.{length, get_or, take, replicate, get_or-replicate}
-use lib.Seq.{take_all, get_or-take, length-take-le}
-use borrow.Author.Tests.{ltb-true, ltb-false, eqb-true, eqb-false, eq-eqb}
+use lib.ListN.{length, get_or, take, set, replicate, length-set, get_or-replicate}
+use lib.Pow.{shl_exact}
+use lib.Seq.{take_all, get_or-set_same, get_or-set_other}
+use borrow.Author.Tests.{lt-ltb, le-ltb, ltb-true, ltb-false, eqb-true, eqb-false, ne_eqb}
 use Rattle.rules.specs.Bounded.{any}
 use Rattle.rules.specs.Layout.{max_classes}
 use Rattle.rules.specs.Model.{Model, Wellformed}
 use Rattle.rules.specs.Bits.{bit_at, in_set}
 use Rattle.rules.specs.Scratch.{matrix_row, class_under, matrix_byte}
-use Rattle.rules.proofs.Lists.{test, or_right, get_d_mem, any_from, any_take}
-use Rattle.rules.proofs.Bits.{bit_zero, bit_shift, byte_of_bits, byte_agree}
+use Rattle.rules.proofs.Lists.{test, agree, any_take}
+use Rattle.rules.proofs.Bits.{same_test, bit_zero, bit_power, bit_shift, byte_of_bits, byte_agree}
 use Rattle.rules.proofs.Scratch.{absent_lower, class_parents}
-use Rattle.inheritance.specs.Order.{ParentsFirst, Whole}
-use Rattle.inheritance.specs.Rows.{RowPut}
-use Rattle.subclasses.specs.Matrix.{ParentsMade, RowOf, Rows, word_byte}
+use Rattle.subclasses.specs.Matrix.{RowOf, RowsTo, word_byte}
+
+-- the set that has one number alone
+pub own_set : (a c : ℕ) → a < max_classes → c < max_classes → in_set (set (replicate 2 0) (a / 64) (1 * 2 ^ (a % 64) % 2 ^ 64)) 0 c ≡ eqb a c
+unfolding in_set
+own_set a c h k =
+    let shifted : 1 * 2 ^ (a % 64) % 2 ^ 64 ≡ 2 ^ (a % 64) = shl_exact 1 (a % 64) 64 (omega arith) (omega arith) ∙ one-mul (2 ^ (a % 64)) in
+    simp zero-add (rw shifted (go (test (eqb (a / 64) (c / 64)))))
+  where
+    go : (eqb (a / 64) (c / 64) ≡ true) ⊎ (eqb (a / 64) (c / 64) ≡ false) → bit_at (get_or (set (replicate 2 0) (a / 64) (2 ^ (a % 64))) (c / 64) 0) (c % 64) ≡ eqb a c
+    go (inl e) =
+        let q = eqb-true (a / 64) (c / 64) e in
+        rw (← q, get_or-set_same (replicate 2 0) (a / 64) (2 ^ (a % 64)) 0 (omega arith), bit_power (a % 64) (c % 64))
+        (same_test (a % 64) (c % 64) a c (λ r. omega arith) (λ r. omega arith))
+    go (inr e) =
+        let q = eqb-false (a / 64) (c / 64) e in
+        rw (get_or-set_other (replicate 2 0) (a / 64) (c / 64) (2 ^ (a % 64)) 0 (λ r. q (sym r)), get_or-replicate {A = ℕ} 2 (c / 64) 0 0 (omega arith), bit_zero (c % 64))
+        (sym (ne_eqb a c (λ r. q (ap (λ (x : ℕ). x / 64) r))))
 
 -- The class itself, and what its first i parents are under: from the class alone, by one parent more, to the whole row.
 pub record Joined (M : Model) (a i : ℕ) (row : List ℕ) : Type 0 where
@@ -32,14 +49,14 @@ module _ (M : Model) (a : ℕ) where
   unfolding any
   joined_none row own = record { within = omega arith; told = λ c h. own c h ∙ sym (or-false (eqb a c)) }
 
-  pub joined_more : (rows row new : List ℕ) (i p : ℕ) → ParentsMade M rows a → Joined M a i row → i < length (M.parents a) → p ≡ get_or (M.parents a) i 0
+  pub joined_more : (rows row new : List ℕ) (i p : ℕ) → RowsTo M a rows → Joined M a i row → i < length (M.parents a) → p ≡ get_or (M.parents a) i 0 → p < a → a < max_classes
       → ((c : ℕ) → c < max_classes → in_set new 0 c ≡ (in_set row 0 c || in_set rows (2 * p) c)) → Joined M a (i + 1) new
-  joined_more rows row new i p f g h e both = record { within = omega arith; told = told }
+  joined_more rows row new i p f g h e l k both = record { within = omega arith; told = told }
     where
       told : (c : ℕ) → c < max_classes → in_set new 0 c ≡ (eqb a c || any (λ p. class_under M p c) (take (i + 1) (M.parents a)))
       told c m =
           both c m
-          ∙ ap₂ ◌||◌ (g.told c m) (f p (rw e (get_d_mem (M.parents a) i 0 h)) c m ∙ rw e)
+          ∙ ap₂ ◌||◌ (g.told c m) (f.told p c (omega arith) m ∙ rw (lt-ltb p a l, e))
           ∙ or_assoc (eqb a c) (any (λ p. class_under M p c) (take i (M.parents a))) (class_under M (get_or (M.parents a) i 0) c)
           ∙ ap (λ (t : Bool). eqb a c || t) (sym (any_take (λ p. class_under M p c) (M.parents a) 0 i h))
 
@@ -47,65 +64,59 @@ module _ (M : Model) (a : ℕ) where
   joined_all row i w h g l =
       record { told = λ c m. g.told c m ∙ rw (take_all i (M.parents a) l) (sym (class_parents M w a c h)) }
 
--- Of the rows those that a test passes are made, and the others are empty.
-pub record RowsMade (M : Model) (made : ℕ → Bool) (rows : List ℕ) : Type 0 where
-  pub long : length rows ≡ 256
-  pub told : (a c : ℕ) → a < max_classes → c < max_classes → in_set rows (2 * a) c ≡ (made a && class_under M a c)
-
--- those of the first i classes of a list
-abbrev pub RowsTo : Model → List ℕ → ℕ → List ℕ → Type 0
-RowsTo M classes i rows = RowsMade M (λ a. any (eqb a) (take i classes)) rows
-
-pub rows_none : (M : Model) (classes rows : List ℕ) → rows ≡ replicate 256 0 → RowsTo M classes 0 rows
-unfolding in_set any
-rows_none M classes rows e = record { long = ap length e; told = λ a c h k. rw (e, get_or-replicate {A = ℕ} 256 (2 * a + c / 64) 0 0 (omega arith), bit_zero (c % 64)) }
+-- no row is made
+pub rows_none : (M : Model) (rows : List ℕ) → rows ≡ replicate 256 0 → RowsTo M 0 rows
+unfolding in_set
+rows_none M rows e = record { long = ap length e; told = λ a c h k. rw (e, get_or-replicate {A = ℕ} 256 (2 * a + c / 64) 0 0 (omega arith), bit_zero (c % 64), le-ltb a 0 (omega arith)) }
 
 -- one row more
-pub rows_more : (M : Model) (classes rows row new : List ℕ) (i a : ℕ) → RowsTo M classes i rows → i < length classes → a ≡ get_or classes i 0 → RowOf M a row → RowPut rows a row new
-    → RowsTo M classes (i + 1) new
-rows_more M classes rows row new i a f h e g put = record { long = put.long ∙ f.long; told = λ x c p q. go x c p q (test (eqb x a)) }
-  where
-    now : (x : ℕ) → any (eqb x) (take (i + 1) classes) ≡ (any (eqb x) (take i classes) || eqb x a)
-    now x = any_take (eqb x) classes 0 i h ∙ rw e
+module _ (M : Model) (rows row : List ℕ) (a : ℕ) (f : RowsTo M a rows) (g : RowOf M a row) (h : a < max_classes) where
+  abbrev changed : List ℕ
+  changed = set (set rows (2 * a) (get_or row 0 0)) (2 * a + 1) (get_or row 1 0)
 
-    go : (x c : ℕ) → x < max_classes → c < max_classes → (eqb x a ≡ true) ⊎ (eqb x a ≡ false)
-        → in_set new (2 * x) c ≡ (any (eqb x) (take (i + 1) classes) && class_under M x c)
-    go x c p q (inl t) =
-        let s = eqb-true x a t in
-        let own : in_set new (2 * x) c ≡ class_under M x c = rw s (put.own c q ∙ g.told c q) in
-        own ∙ rw (now x, or_right (any (eqb x) (take i classes)) (eqb x a) t)
-    go x c p q (inr t) = put.others x (eqb-false x a t) c q ∙ f.told x c p q ∙ rw (now x, t, or-false)
+  -- its two words are the row's
+  own_word : (i : ℕ) → i < 2 → get_or changed (2 * a + i) 0 ≡ get_or row i 0
+  own_word zero l =
+      rw add-zero
+      (get_or-set_other (set rows (2 * a) (get_or row 0 0)) (2 * a + 1) (2 * a) (get_or row 1 0) 0 (λ e. omega (arith, e))
+      ∙ get_or-set_same rows (2 * a) (get_or row 0 0) 0 (omega (arith, f.long)))
+  own_word (suc zero) l = get_or-set_same (set rows (2 * a) (get_or row 0 0)) (2 * a + 1) (get_or row 1 0) 0 (rw length-set (omega (arith, f.long)))
+  own_word (suc (suc i)) l = absurd (omega arith)
 
--- the parents of a class that stands in an order have rows before it
-pub parents_made : (M : Model) {n count : ℕ} {classes rows : List ℕ} (i a : ℕ) → ParentsFirst M.parents n count classes → n ≤ max_classes → count ≤ length classes → i < count
-    → a ≡ get_or classes i 0 → RowsTo M classes i rows → ParentsMade M rows a
-parents_made M {n} {count} {classes} {rows} i a o limit long h e f p m c k =
-    let (j, l, q) = o.after i h p (rw e at m) in
-    let below : p < max_classes = rw (← q) (omega (arith, o.present j (omega (arith, l)))) in
-    let made : any (eqb p) (take i classes) ≡ true = any_from (eqb p) (take i classes) (stood j l q) (eq-eqb p p refl) in
-    f.told p c below k ∙ rw made
-  where
-    stood : (j : ℕ) → j < i → get_or classes j 0 ≡ p → Memᴰ p (take i classes)
-    stood j l q = rw (← q, ← get_or-take i classes j 0 l) (get_d_mem (take i classes) j 0 (omega (arith, length-take-le i classes (omega arith))))
+  -- and the others stay
+  other_word : (k : ℕ) → (k ≡ 2 * a → ⊥) → (k ≡ 2 * a + 1 → ⊥)
+      → get_or changed k 0 ≡ get_or rows k 0
+  other_word k p q =
+      get_or-set_other (set rows (2 * a) (get_or row 0 0)) (2 * a + 1) k (get_or row 1 0) 0 q
+      ∙ get_or-set_other rows (2 * a) k (get_or row 0 0) 0 p
 
--- once all classes of a whole order have a row, all rows are made
-pub rows_all : (M : Model) {count : ℕ} {classes rows : List ℕ} → Whole M.parents M.classes count classes → count ≤ length classes → RowsTo M classes count rows → Rows M rows
-rows_all M {count} {classes} {rows} w long f = record { long = f.long; told = λ a c h k. f.told a c h k ∙ go a c (test (ltb a M.classes)) }
-  where
-    made : (a : ℕ) → a < M.classes → any (eqb a) (take count classes) ≡ true
-    made a h =
-        let (i, l, q) = w.all a h in
-        any_from (eqb a) (take count classes) (stood i l) (rw (get_or-take count classes i 0 l, q) (eq-eqb a a refl))
-      where
-        stood : (i : ℕ) → i < count → Memᴰ (get_or (take count classes) i 0) (take count classes)
-        stood i l = get_d_mem (take count classes) i 0 (omega (arith, length-take-le count classes long))
+  pub rows_more : RowsTo M (a + 1) changed
+  unfolding in_set
+  rows_more =
+      record {
+        long = length-set (set rows (2 * a) (get_or row 0 0)) (2 * a + 1) (get_or row 1 0) ∙ length-set rows (2 * a) (get_or row 0 0) ∙ f.long;
+        told = λ x c p q. go x c p q (test (eqb x a));
+      }
+    where
+      go : (x c : ℕ) → x < max_classes → c < max_classes → (eqb x a ≡ true) ⊎ (eqb x a ≡ false)
+          → in_set changed (2 * x) c ≡ (ltb x (a + 1) && class_under M x c)
+      go x c p q (inl e) =
+          let s = eqb-true x a e in
+          rw (s, lt-ltb a (a + 1) (omega arith), own_word (c / 64) (omega arith)) (simp zero-add at (g.told c q))
+      go x c p q (inr e) =
+          let s = eqb-false x a e in
+          rw (other_word (2 * x + c / 64) (λ r. s (omega arith)) (λ r. s (omega arith)))
+          (f.told x c p q ∙ ap (λ (t : Bool). t && class_under M x c) (agree (ltb x a) (ltb x (a + 1)) (λ r. lt-ltb x (a + 1) (omega (arith, ltb-true x a r))) (λ r. lt-ltb x a (omega (arith, ltb-true x (a + 1) r, s)))))
 
-    go : (a c : ℕ) → (ltb a M.classes ≡ true) ⊎ (ltb a M.classes ≡ false) → (any (eqb a) (take count classes) && class_under M a c) ≡ class_under M a c
-    go a c (inl e) = rw (made a (ltb-true a M.classes e))
-    go a c (inr e) = rw (absent_lower M a c (ltb-false a M.classes e), and-false)
+-- where the rows of all classes are made, the bytes of their words are those of the matrix
+module _ (M : Model) (rows : List ℕ) (f : RowsTo M M.classes rows) where
+  rows_told : (a c : ℕ) → a < max_classes → c < max_classes → in_set rows (2 * a) c ≡ class_under M a c
+  rows_told a c h k = f.told a c h k ∙ go (test (ltb a M.classes))
+    where
+      go : (ltb a M.classes ≡ true) ⊎ (ltb a M.classes ≡ false) → (ltb a M.classes && class_under M a c) ≡ class_under M a c
+      go (inl e) = rw e
+      go (inr e) = rw e (sym (absent_lower M a c (ltb-false a M.classes e)))
 
--- the bytes of the rows' words are those of the matrix
-module _ (M : Model) (rows : List ℕ) (f : Rows M rows) where
   pub rows_bytes : (w j : ℕ) → w < 256 → j < 8 → word_byte (get_or rows w 0) j ≡ matrix_byte M (8 * w + j)
   unfolding word_byte matrix_byte in_set
   rows_bytes w j h l =
@@ -120,4 +131,4 @@ module _ (M : Model) (rows : List ℕ) (f : Rows M rows) where
           let digit : c % 64 ≡ 8 * j + i = omega arith in
           bit_shift (get_or rows w 0) (8 * j) i
           ∙ ap₂ (λ (k d : ℕ). bit_at (get_or rows k 0) d) (sym word) (sym digit)
-          ∙ f.told a c (omega arith) (omega arith)
+          ∙ rows_told a c (omega arith) (omega arith)

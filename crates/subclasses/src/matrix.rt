@@ -1,19 +1,17 @@
-// The subclass matrix: bit c mod 8, the lowest first, of byte 16·a + c / 8 of the scratch is 1 when class a is under class c. `fill` writes it, `ancestry_of`
-// and `above_count` ask it; nothing else knows how it is stored.
-ghost use Rattle.std.specs.Prelude.{◌≡◌, ◌<◌, ◌≤◌, length};
+// The subclass matrix: bit c mod 8, the lowest first, of byte 16·a + c / 8 of the scratch is 1 when class a is under class c. `fill` writes it and `ancestry_of`
+// asks it; nothing else knows how it is stored.
+ghost use Rattle.std.specs.Prelude.{◌≡◌, ◌||◌, ℕ, ◌*◌, ◌<◌, ◌≤◌, eqb, length};
 ghost use Rattle.rules.specs.Layout.{max_classes};
 ghost use Rattle.rules.specs.Model.{model_of};
+ghost use Rattle.rules.specs.Bits.{in_set};
 ghost use Rattle.rules.specs.Scratch.{scratch_bytes, entry_at, matrix_byte};
 ghost use Rattle.rules.specs.Calls.{overwrite};
 ghost use Rattle.layout.specs.Opened.{Opened};
-ghost use Rattle.subclasses.specs.Matrix.{ParentsMade, RowOf, Rows, word_byte, ancestry_at, above_at};
+ghost use Rattle.subclasses.specs.Matrix.{RowOf, RowsTo, word_byte, ancestry_at};
 ghost use Rattle.subclasses.specs.Ancestry.{ancestry_of};
 
-use inheritance::order::class_order;
-use inheritance::rows::{ROW_WORDS, WORDS, either, own_row, put_row, row_at};
 use layout::bundle::Bundle;
-use layout::bytes::byte_at;
-use layout::parents::{parent, parent_count};
+use layout::field::{parent, parent_count};
 
 // The bytes of a row, and of the matrix.
 const ROW_BYTES: usize = Bundle::CLASSES / 8;
@@ -21,13 +19,38 @@ const ROW_BYTES: usize = Bundle::CLASSES / 8;
 pub const BYTES: usize = Bundle::CLASSES * ROW_BYTES;
 
 // Rows are made as words of bits, and written as bytes once all are made.
+const WORD_BITS: usize = 64;
+
 const WORD_BYTES: usize = 8;
 
-// Row a: the class itself, and the rows of its parents, which are made.
+const ROW_WORDS: usize = Bundle::CLASSES / WORD_BITS;
+
+const WORDS: usize = Bundle::CLASSES * ROW_WORDS;
+
+// The row that has class a alone.
+fn own_row(a: usize) -> [u64; ROW_WORDS]
+    requires { a < max_classes }
+    ensures { (c : ℕ) → c < max_classes → in_set result 0 c ≡ eqb a c }
+{
+    let mut row = [0u64; ROW_WORDS];
+    row[a / WORD_BITS] = 1 << (a % WORD_BITS);
+    row
+}
+
+// A row with the classes of row p as well.
+fn joined(row: &[u64; ROW_WORDS], rows: &[u64; WORDS], p: usize) -> [u64; ROW_WORDS]
+    requires { p < max_classes }
+    ensures { (c : ℕ) → c < max_classes → in_set result 0 c ≡ (in_set row.now 0 c || in_set rows.now (2 * p) c) }
+{
+    let at = ROW_WORDS * p;
+    [row[0] | rows[at], row[1] | rows[at + 1]]
+}
+
+// Row a: the class itself, and the rows of its parents, which are lower.
 fn row_of(bytes: &[u8], b: Bundle, rows: &[u64; WORDS], a: usize) -> [u64; ROW_WORDS]
     requires opened { Opened bytes.now b }
     requires a_lt_classes { a < b.classes }
-    requires parents_made { ParentsMade (model_of bytes.now) rows.now a }
+    requires rows_to { RowsTo (model_of bytes.now) a rows.now }
     ensures { RowOf (model_of bytes.now) a result }
 {
     let mut row = own_row(a);
@@ -35,27 +58,24 @@ fn row_of(bytes: &[u8], b: Bundle, rows: &[u64; WORDS], a: usize) -> [u64; ROW_W
     let mut i = 0;
     while i < n {
         let p = parent(bytes, b, a, i);
-        let more = either(row, row_at(rows, p));
-        row = more;
+        row = joined(&row, rows, p);
         i += 1;
     }
     row
 }
 
-// All rows, each after those of the parents; those of numbers that are no class are empty.
+// All rows; those of numbers that are no class are empty.
 fn rows_of(bytes: &[u8], b: Bundle) -> [u64; WORDS]
     requires { Opened bytes.now b }
-    ensures { Rows (model_of bytes.now) result }
+    ensures { RowsTo (model_of bytes.now) b.classes result }
 {
-    let order = class_order(bytes, b);
-    let classes = order.classes;
     let mut rows = [0u64; WORDS];
-    let mut i = 0;
-    while i < order.count {
-        let a = byte_at(&classes, i);
+    let mut a = 0;
+    while a < b.classes {
         let row = row_of(bytes, b, &rows, a);
-        put_row(&mut rows, a, row);
-        i += 1;
+        rows[ROW_WORDS * a] = row[0];
+        rows[ROW_WORDS * a + 1] = row[1];
+        a += 1;
     }
     rows
 }
@@ -124,20 +144,4 @@ pub fn under(scratch: &[u8], a: usize, c: usize) -> bool
         Ancestry::Same | Ancestry::Heir => true,
         Ancestry::Neither => false,
     }
-}
-
-// How many classes class a is under, itself among them: the bits of its row.
-pub fn above_count(scratch: &[u8], a: usize) -> usize
-    requires scratch_bytes_in_bounds { scratch_bytes ≤ length scratch.now }
-    requires a_lt_max_classes { a < max_classes }
-    ensures { result ≡ length (above_at scratch.now a) }
-{
-    let row = ROW_BYTES * a;
-    let mut count = 0;
-    let mut j = 0;
-    while j < ROW_BYTES {
-        count += u8::count_ones(scratch[row + j]) as usize;
-        j += 1;
-    }
-    count
 }

@@ -83,7 +83,7 @@ fn given_method(
     requires some_finds { SomeFinds (model_of bytes.now) f upper.now m }
     ensures { rough_said result ≡ gives (rough (model_of bytes.now) f upper.now) }
 {
-    let order = order_methods(bytes, b, scratch);
+    let order = order_methods(bytes, b);
     let mut admits = [0u64; TABLE_WORDS];
     fill_table(bytes, b, scratch, &order, false, &mut admits);
     let only = Question::FindsOnly(f, m);

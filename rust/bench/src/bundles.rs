@@ -1,10 +1,10 @@
 //! The bundles that are measured.
 
-use builder::{bucket, tree, Parts, Random, ARG, NEW, RESEND, SEND};
+use builder::{bucket, tree, widest_chart, Parts, Random, ARG, NEW, RESEND, SEND};
 
 /// As many records as the limits allow, and bodies to fill 65,535 bytes. It is accepted. A function has arguments and
 /// results in one of the eight parts that depth 3 divides the tree into, and its bodies send functions of that part.
-pub fn largest() -> Parts {
+pub fn largest() -> Vec<u8> {
     let mut parts = tree();
     for function in 0..64 {
         parts.function(1 + function % 3);
@@ -39,20 +39,21 @@ pub fn largest() -> Parts {
             }
         }
     }
-    assert_eq!(parts.bytes().len(), 65_535);
-    parts
+    let bytes = parts.bytes();
+    assert_eq!(bytes.len(), 65_535);
+    bytes
 }
 
-/// The largest bundle with one fault, at its end: the operand of the last method's last instruction is too high for any operation.
-pub fn largest_broken() -> Parts {
-    let mut parts = largest();
-    let last = parts.methods.last_mut().and_then(|method| method.body.last_mut());
-    last.expect("each method has a body")[1] = 255;
-    parts
+/// The largest bundle with one fault, at its end: the last byte, which is the operand of the last method's last instruction, is
+/// too high for any operation.
+pub fn largest_broken() -> Vec<u8> {
+    let mut bytes = largest();
+    bytes[65_534] = 255;
+    bytes
 }
 
 /// 128 classes with three parents each, and nothing else.
-pub fn classes() -> Parts {
+pub fn classes() -> Vec<u8> {
     let mut random = Random::new(1);
     let mut parts = Parts::default();
     parts.class(true, &[]);
@@ -62,7 +63,7 @@ pub fn classes() -> Parts {
         parents.dedup();
         parts.class(true, &parents);
     }
-    parts
+    parts.bytes()
 }
 
 /// 128 concrete classes, all but class 0 straight under it.
@@ -82,7 +83,7 @@ fn break_last(parts: &mut Parts, function: u8) {
 }
 
 /// A signature over 2,097,152 tuples, and five methods, or seven where the last tuple is broken.
-pub fn few_methods(broken: bool) -> Parts {
+pub fn few_methods(broken: bool) -> Vec<u8> {
     let mut parts = flat();
     let function = parts.function(3);
     parts.signature(function, [0; 3], 0);
@@ -92,11 +93,11 @@ pub fn few_methods(broken: bool) -> Parts {
     if broken {
         break_last(&mut parts, function);
     }
-    parts
+    parts.bytes()
 }
 
 /// The same signature and 512 methods, of which at most four apply to a tuple.
-pub fn many_methods(broken: bool) -> Parts {
+pub fn many_methods(broken: bool) -> Vec<u8> {
     let mut parts = flat();
     let function = parts.function(3);
     parts.signature(function, [0; 3], 0);
@@ -122,12 +123,12 @@ pub fn many_methods(broken: bool) -> Parts {
         }
     }
     assert_eq!(parts.methods.len(), 512);
-    parts
+    parts.bytes()
 }
 
 /// 127 concrete classes that 512 methods tell apart at each of three places, although every tuple finds the first of them: each of
 /// the others has at some place the one abstract class, which no class is under but itself.
-pub fn found_everywhere() -> Parts {
+pub fn found_everywhere() -> Vec<u8> {
     let mut parts = flat();
     parts.classes[127].concrete = false;
     let function = parts.function(3);
@@ -143,12 +144,12 @@ pub fn found_everywhere() -> Parts {
         };
         parts.method(function, specialisers, 0, &[[NEW, 0]]);
     }
-    parts
+    parts.bytes()
 }
 
 /// 512 methods that the library puts into one bucket, so that each is compared with all before it. They are of one function, so
 /// that no comparison ends there.
-pub fn one_bucket() -> Parts {
+pub fn one_bucket() -> Vec<u8> {
     let mut parts = flat();
     let function = parts.function(3);
     let triples = (0..128).flat_map(|a| (0..128).flat_map(move |b| (0..128).map(move |c| [a, b, c])));
@@ -156,11 +157,11 @@ pub fn one_bucket() -> Parts {
         parts.method(function, [a, b, c], 0, &[[NEW, 0]]);
     }
     assert_eq!(parts.methods.len(), 512);
-    parts
+    parts.bytes()
 }
 
 /// 128 concrete classes, each but class 0 under the one before.
-pub fn chained() -> Parts {
+fn chained() -> Parts {
     let mut parts = Parts::default();
     parts.class(true, &[]);
     for number in 1..128 {
@@ -169,33 +170,15 @@ pub fn chained() -> Parts {
     parts
 }
 
-/// The same chain with its classes the other way round: each but the last is under the next one, and the last under class 0.
-pub fn chained_backwards() -> Parts {
-    let numbers: Vec<u8> = (0..128).map(|class| (128 - class) % 128).collect();
-    chained().renumbered(&numbers)
-}
-
-/// A bundle with other numbers for its classes, so that most heirs of many come before a parent.
-pub fn renumbered(parts: &Parts) -> Parts {
-    parts.shuffled(&mut Random::new(9))
-}
-
-/// All classes but class 0 on one cycle.
-pub fn cycle() -> Parts {
-    let mut parts = chained();
-    parts.classes[1].parents = vec![127];
-    parts
-}
-
 /// The same signature, so many times, over a chain of 128 classes, and 382 methods, of which most apply to most tuples.
-pub fn chain(times: usize) -> Parts {
+pub fn chain(times: usize) -> Vec<u8> {
     let mut parts = chained();
     let function = parts.function(3);
     for _ in 0..times {
         parts.signature(function, [0; 3], 0);
     }
     add_line(&mut parts, function, &[[NEW, 0]]);
-    parts
+    parts.bytes()
 }
 
 /// Adds a line of 382 methods over a chain of 128 classes, each more specific than the one before. All but the first have the body.
@@ -210,7 +193,7 @@ fn add_line(parts: &mut Parts, function: u8, body: &[[u8; 2]]) {
 
 /// The line of methods over a chain of classes, in which each but the first resends so many times. Two values at a time become one by
 /// a send. It is accepted.
-pub fn line_of_resends(times: usize) -> Parts {
+pub fn line_of_resends(times: usize) -> Vec<u8> {
     let mut parts = chained();
     let function = parts.function(3);
     let first_of_two = parts.function(2);
@@ -221,13 +204,13 @@ pub fn line_of_resends(times: usize) -> Parts {
     }
     add_line(&mut parts, function, &body);
     parts.method(first_of_two, [0; 3], 0, &[[ARG, 0]]);
-    parts
+    parts.bytes()
 }
 
 /// 512 methods that all apply to the last tuple of a chain of 128 classes. Two in the middle of the list are rivals. Each of the
 /// others is beaten by these two alone, so that a search for rivals, or for what beats a method, passes half of the list from
 /// either end.
-pub fn rivals_in_the_middle() -> Parts {
+pub fn rivals_in_the_middle() -> Vec<u8> {
     let mut parts = chained();
     let function = parts.function(3);
     // Of two triples with the same sum neither is at least as specific as the other.
@@ -237,7 +220,7 @@ pub fn rivals_in_the_middle() -> Parts {
     for specialisers in specialisers {
         parts.method(function, specialisers, 0, &[[NEW, 0]]);
     }
-    parts
+    parts.bytes()
 }
 
 /// Adds a method, and takes it away again where the bundle is refused with it: a twin, or a tuple for which no method leads.
@@ -249,7 +232,7 @@ fn method_if_accepted(parts: &mut Parts, function: u8, specialisers: [u8; 3], bo
 }
 
 /// Four functions of three arguments over the tree of 128 classes, with 60 methods. It is accepted.
-pub fn four_functions() -> Parts {
+pub fn four_functions() -> Vec<u8> {
     let mut random = Random::new(6);
     let mut parts = tree();
     for _ in 0..4 {
@@ -262,11 +245,11 @@ pub fn four_functions() -> Parts {
         let specialisers = [0; 3].map(|_| random.of(&[0, 1]) * random.below(128) as u8);
         method_if_accepted(&mut parts, function, specialisers, &[[ARG, 0]]);
     }
-    parts
+    parts.bytes()
 }
 
 /// A department: 40 classes, 10 functions, 60 signatures and 120 methods, with bodies that send. It is accepted.
-pub fn department() -> Parts {
+pub fn department() -> Vec<u8> {
     let mut random = Random::new(40);
     let mut parts = Parts::default();
     parts.class(false, &[]);
@@ -308,7 +291,7 @@ pub fn department() -> Parts {
         }
         parts.signature(function, arguments, 0);
     }
-    parts
+    parts.bytes()
 }
 
 /// The classes, functions and methods for which signatures were found to take longest. All classes but class 0 are concrete and
@@ -345,17 +328,17 @@ fn told_apart() -> Parts {
 }
 
 /// The slowest bundle found with so many signatures, up to 256: each covers all tuples, and none implies a later one.
-pub fn slowest(signatures: usize) -> Parts {
+pub fn slowest(signatures: usize) -> Vec<u8> {
     let mut parts = told_apart();
     for number in 0..signatures {
         parts.signature(0, [1 - (number % 2) as u8, 1, 1], (number / 2) as u8);
     }
-    parts
+    parts.bytes()
 }
 
 /// As slow with 256 signatures, and the last tuple of the last one is broken: the method that it finds has a result class that the
 /// other signatures' result classes are above, and the last one's is not.
-pub fn slowest_broken() -> Parts {
+pub fn slowest_broken() -> Vec<u8> {
     let mut parts = told_apart();
     for number in 0..255 {
         let arguments = [[1, 1, 1], [0, 1, 1], [0, 0, 1], [0, 0, 0]][number % 4];
@@ -364,7 +347,17 @@ pub fn slowest_broken() -> Parts {
     parts.signature(0, [0; 3], 127);
     parts.methods.pop();
     parts.method(0, [127; 3], 64, &[[NEW, 127]]);
-    parts
+    parts.bytes()
+}
+
+/// A function of two arguments over the tree of 128 classes, with 512 methods, of which up to 25 apply to a tuple.
+pub fn chart() -> Vec<u8> {
+    widest_chart().bytes()
+}
+
+/// The sample of that name.
+pub fn chart_3() -> Vec<u8> {
+    builder::chart_3().bytes()
 }
 
 /// A body that sends the next function over and over.
@@ -378,7 +371,7 @@ fn sends_next(function: u8) -> Vec<[u8; 2]> {
 
 /// A run of more than ten million steps: five functions, each of which sends the next one over and over, and a last one
 /// whose three methods hand the classes round.
-pub fn long_run() -> Parts {
+pub fn long_run() -> Vec<u8> {
     let mut parts = Parts::default();
     parts.class(false, &[]);
     for _ in 0..3 {
@@ -399,12 +392,12 @@ pub fn long_run() -> Parts {
     parts.method(5, [1, 0, 0], 0, &[[NEW, 2]]);
     parts.method(5, [2, 0, 0], 0, &[[NEW, 3]]);
     parts.method(5, [3, 0, 0], 0, &[[NEW, 1]]);
-    parts
+    parts.bytes()
 }
 
 /// A special method that hands on to a general one, sent over and over in a run of more than ten million steps. It resends; or it
 /// sends another function, which has no arguments, so that no step more is made for these.
-pub fn handing_on(resends: bool) -> Parts {
+pub fn handing_on(resends: bool) -> Vec<u8> {
     let mut parts = Parts::default();
     parts.class(false, &[]);
     for _ in 1..4 {
@@ -423,12 +416,12 @@ pub fn handing_on(resends: bool) -> Parts {
     parts.method(5, [0; 3], 0, &general);
     parts.method(other, [0; 3], 0, &general);
     parts.method(5, [1, 2, 0], 0, &[if resends { [RESEND, 0] } else { [SEND, other] }]);
-    parts
+    parts.bytes()
 }
 
 /// As long a run of seven methods, one to a function, in a bundle that has so many; the others are of a function that is
 /// never sent.
-pub fn run_among(methods: usize) -> Parts {
+pub fn run_among(methods: usize) -> Vec<u8> {
     let mut parts = Parts::default();
     parts.class(true, &[]);
     for _ in 1..32 {
@@ -444,5 +437,5 @@ pub fn run_among(methods: usize) -> Parts {
     for number in 0..methods - parts.methods.len() {
         parts.method(other, [(number / 32) as u8, (number % 32) as u8, 0], 0, &[[ARG, 0]]);
     }
-    parts
+    parts.bytes()
 }

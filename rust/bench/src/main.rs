@@ -5,7 +5,6 @@
 mod bundles;
 mod clock;
 
-use builder::{chart_3, widest_chart, Parts};
 use curiumtoad::raw;
 use std::hint::black_box;
 use std::time::Duration;
@@ -14,7 +13,7 @@ type Reply = (u8, [u64; 8]);
 
 /// One line of the table: the same calls by the library and by the peers that have them.
 struct Case {
-    name: String,
+    name: &'static str,
     library: Call,
     plain: Option<Call>,
     fast: Option<Call>,
@@ -34,23 +33,18 @@ fn main() {
 }
 
 fn cases() -> Vec<Case> {
-    let mut cases = vec![
+    vec![
         open_case("open the largest bundle, 65,535 bytes", bundles::largest(), (0, 128)),
         open_case("open the largest bundle, last operand too high", bundles::largest_broken(), (9, 511)),
         open_case("open 512 methods of one function", bundles::many_methods(false), (0, 128)),
         open_case("open 512 methods of one function, all in one bucket", bundles::one_bucket(), (0, 128)),
-        open_case("open 128 classes of three parents", bundles::classes(), (0, 128)),
-        open_case("open 127 classes on one cycle, refused", bundles::cycle(), (28, 1)),
         ancestry_case("ancestry: 128 classes of three parents", bundles::classes(), 127),
-        ancestry_case("ancestry: a chain of 128 classes", bundles::chained(), 127),
-        ancestry_case("ancestry: a chain of 128 classes, heirs first", bundles::chained_backwards(), 127),
-        ancestry_case("ancestry: a chain of 128 classes, renumbered", bundles::renumbered(&bundles::chained()), 127),
-        ancestry_case("ancestry on chart-3", chart_3(), 7),
+        ancestry_case("ancestry on chart-3", bundles::chart_3(), 7),
         lookup_case("lookup among 512 methods", bundles::many_methods(false), next, 0),
         lookup_case("lookup among 512 methods that all apply, ambiguous", bundles::rivals_in_the_middle(), last, 11),
-        repeated(LINES, chart_case("chart of 128 classes, 512 methods: all 129 lines", widest_chart())),
-        repeated(LINES, ancestry_case("ancestry on the bundle of that chart, 129 times", widest_chart(), 127)),
-        rough_case("rough answer on chart-3, last of 4 tuples fails", chart_3(), [1, 3, 0], 1),
+        repeated(LINES, chart_case("chart of 128 classes, 512 methods: all 129 lines", bundles::chart())),
+        repeated(LINES, ancestry_case("ancestry on the bundle of that chart, 129 times", bundles::chart(), 127)),
+        rough_case("rough answer on chart-3, last of 4 tuples fails", bundles::chart_3(), [1, 3, 0], 1),
         rough_case("rough answer, 2,048,383 tuples, 512 methods, one", bundles::found_everywhere(), [0; 3], 0),
         rough_case("rough answer, 2,097,152 tuples, 512 methods, several", bundles::many_methods(false), [0; 3], 2),
         rough_case(
@@ -59,49 +53,32 @@ fn cases() -> Vec<Case> {
             [0; 3],
             1,
         ),
-    ];
-    cases.extend(checks());
-    cases.extend([
+        check_case("check 2,097,152 tuples, 5 methods, accepted", bundles::few_methods(false), 0),
+        check_case("check 2,097,152 tuples, 7 methods, last one broken", bundles::few_methods(true), 11),
+        check_case("check 2,097,152 tuples, 512 methods, accepted", bundles::many_methods(false), 0),
+        check_case("check 2,097,152 tuples, 512 methods, last one broken", bundles::many_methods(true), 11),
+        without_plain(check_case("check 2,097,152 tuples, 382 methods in a line, accepted", bundles::chain(1), 0)),
+        without_plain(check_case("check the same signature 256 times, accepted", bundles::chain(256), 0)),
+        check_case("check four functions, a tree of 128 classes, 60 methods, accepted", bundles::four_functions(), 0),
+        check_case("check a department: 40, 10, 60, 120 records", bundles::department(), 0),
+        check_case("check the largest bundle, accepted", bundles::largest(), 0),
+        without_plain(check_case("check the slowest signature found, accepted", bundles::slowest(1), 0)),
+        without_plain(check_case("check the slowest bundle found, 256 signatures, accepted", bundles::slowest(256), 0)),
+        without_plain(check_case("check the slowest bundle found, last tuple broken", bundles::slowest_broken(), 13)),
+        check_case("check 382 methods in a line, each of which resends, accepted", bundles::line_of_resends(1), 0),
+        check_case("check the same, each resends 32 times, accepted", bundles::line_of_resends(32), 0),
         run_case("run of 10,000,000 steps", bundles::long_run()),
         run_case("run of 10,000,000 steps, one method to a function, 7 methods", bundles::run_among(7)),
         run_case("run of 10,000,000 steps, the same among 512 methods", bundles::run_among(512)),
         run_case("run of 10,000,000 steps, a special method resends", bundles::handing_on(true)),
         run_case("run of 10,000,000 steps, it sends another function instead", bundles::handing_on(false)),
-    ]);
-    cases
+    ]
 }
 
-/// Each check, and the same with other numbers for the classes; of the two that take longest one is enough for that.
-fn checks() -> Vec<Case> {
-    let twice = [
-        renumbered_too("check 2,097,152 tuples, 5 methods, accepted", bundles::few_methods(false), 0),
-        renumbered_too("check 2,097,152 tuples, 7 methods, last one broken", bundles::few_methods(true), 11),
-        renumbered_too("check 2,097,152 tuples, 512 methods, accepted", bundles::many_methods(false), 0),
-        renumbered_too("check 2,097,152 tuples, 512 methods, last one broken", bundles::many_methods(true), 11),
-        renumbered_too("check 2,097,152 tuples, 382 methods in a line, accepted", bundles::chain(1), 0)
-            .map(without_plain),
-        renumbered_too("check the same signature 256 times, accepted", bundles::chain(256), 0).map(without_plain),
-        renumbered_too(
-            "check four functions, a tree of 128 classes, 60 methods, accepted",
-            bundles::four_functions(),
-            0,
-        ),
-        renumbered_too("check a department: 40, 10, 60, 120 records", bundles::department(), 0),
-        renumbered_too("check the largest bundle, accepted", bundles::largest(), 0),
-        renumbered_too("check 382 methods in a line, each of which resends, accepted", bundles::line_of_resends(1), 0),
-        renumbered_too("check the same, each resends 32 times, accepted", bundles::line_of_resends(32), 0),
-        renumbered_too("check the slowest signature found, accepted", bundles::slowest(1), 0).map(without_plain),
-        renumbered_too("check the slowest bundle found, 256 signatures, accepted", bundles::slowest(256), 0)
-            .map(without_plain),
-    ];
-    let once = check_case("check the slowest bundle found, last tuple broken", bundles::slowest_broken(), 13);
-    twice.into_iter().flatten().chain([without_plain(once)]).collect()
-}
-
-fn open_case(name: &str, parts: Parts, (number, first): (u8, u64)) -> Case {
-    let [a, b, c] = [(); 3].map(|()| parts.bytes());
+fn open_case(name: &'static str, bundle: Vec<u8>, (number, first): (u8, u64)) -> Case {
+    let [a, b, c] = [bundle.clone(), bundle.clone(), bundle];
     Case {
-        name: name.to_string(),
+        name,
         library: Box::new(move || by_library(|values| raw::open(black_box(&a), values))),
         plain: Some(Box::new(move || by_plain(plain::open(black_box(&b))))),
         fast: Some(Box::new(move || by_library(|values| fast::open(black_box(&c), values)))),
@@ -110,11 +87,11 @@ fn open_case(name: &str, parts: Parts, (number, first): (u8, u64)) -> Case {
 }
 
 /// How a class stands to class 0: every other is a proper heir of it.
-fn ancestry_case(name: &str, parts: Parts, class: u64) -> Case {
-    let [a, b, c] = [(); 3].map(|()| parts.bytes());
+fn ancestry_case(name: &'static str, bundle: Vec<u8>, class: u64) -> Case {
+    let [a, b, c] = [bundle.clone(), bundle.clone(), bundle];
     let [mut scratch_1, mut scratch_2, mut scratch_3] = [[0; plain::SCRATCH]; 3];
     Case {
-        name: name.to_string(),
+        name,
         library: Box::new(move || by_library(|values| raw::ancestry(black_box(&a), &mut scratch_1, class, 0, values))),
         plain: Some(Box::new(move || by_plain(plain::ancestry(black_box(&b), &mut scratch_2, class, 0)))),
         fast: Some(Box::new(move || {
@@ -125,12 +102,12 @@ fn ancestry_case(name: &str, parts: Parts, class: u64) -> Case {
 }
 
 /// One call is one lookup; each takes the tuple that follows the one before.
-fn lookup_case(name: &str, parts: Parts, next: fn([u64; 3]) -> [u64; 3], number: u8) -> Case {
-    let [a, b] = [(); 2].map(|()| parts.bytes());
+fn lookup_case(name: &'static str, bundle: Vec<u8>, next: fn([u64; 3]) -> [u64; 3], number: u8) -> Case {
+    let [a, b] = [bundle.clone(), bundle];
     let (mut scratch_1, mut scratch_2) = ([0; plain::SCRATCH], [0; plain::SCRATCH]);
     let (mut tuple_1, mut tuple_2) = ([0; 3], [0; 3]);
     Case {
-        name: name.to_string(),
+        name,
         library: Box::new(move || {
             tuple_1 = next(tuple_1);
             by_library(|values| raw::lookup(black_box(&a), &mut scratch_1, 0, tuple_1, values))
@@ -155,11 +132,11 @@ fn last(_: [u64; 3]) -> [u64; 3] {
 }
 
 /// A rough call of function 0, and what it has to answer.
-fn rough_case(name: &str, parts: Parts, uppers: [u64; 3], answer: u64) -> Case {
-    let [a, b, c] = [(); 3].map(|()| parts.bytes());
+fn rough_case(name: &'static str, bundle: Vec<u8>, uppers: [u64; 3], answer: u64) -> Case {
+    let [a, b, c] = [bundle.clone(), bundle.clone(), bundle];
     let [mut scratch_1, mut scratch_2, mut scratch_3] = [[0; plain::SCRATCH]; 3];
     Case {
-        name: name.to_string(),
+        name,
         library: Box::new(move || by_library(|values| raw::rough(black_box(&a), &mut scratch_1, 0, uppers, values))),
         plain: Some(Box::new(move || by_plain(plain::rough(black_box(&b), &mut scratch_2, 0, uppers)))),
         fast: Some(Box::new(move || {
@@ -173,13 +150,13 @@ fn rough_case(name: &str, parts: Parts, uppers: [u64; 3], answer: u64) -> Case {
 const LINES: u64 = 129;
 
 /// One call is one line; the line changes from call to call.
-fn chart_case(name: &str, parts: Parts) -> Case {
-    let [a, b] = [(); 2].map(|()| parts.bytes());
+fn chart_case(name: &'static str, bundle: Vec<u8>) -> Case {
+    let [a, b] = [bundle.clone(), bundle];
     let (mut scratch_1, mut scratch_2) = ([0; plain::SCRATCH], [0; plain::SCRATCH]);
     let (mut text_1, mut text_2) = ([0; plain::LINE], [0; plain::LINE]);
     let (mut line_1, mut line_2) = (0, 0);
     Case {
-        name: name.to_string(),
+        name,
         library: Box::new(move || {
             line_1 = (line_1 + 1) % LINES;
             by_library(|values| raw::chart(black_box(&a), &mut scratch_1, &mut text_1, 0, line_1, values))
@@ -206,17 +183,11 @@ fn repeated(count: u64, case: Case) -> Case {
     Case { library: over(case.library), plain: case.plain.map(over), fast: case.fast.map(over), ..case }
 }
 
-/// A check, and that of the same bundle with its classes in another order.
-fn renumbered_too(name: &str, parts: Parts, number: u8) -> [Case; 2] {
-    let renumbered = bundles::renumbered(&parts);
-    [check_case(name, parts, number), check_case(&format!("{name}, classes renumbered"), renumbered, number)]
-}
-
-fn check_case(name: &str, parts: Parts, number: u8) -> Case {
-    let [a, b, c] = [(); 3].map(|()| parts.bytes());
+fn check_case(name: &'static str, bundle: Vec<u8>, number: u8) -> Case {
+    let [a, b, c] = [bundle.clone(), bundle.clone(), bundle];
     let [mut scratch_1, mut scratch_2, mut scratch_3] = [[0; plain::SCRATCH]; 3];
     Case {
-        name: name.to_string(),
+        name,
         library: Box::new(move || by_library(|values| raw::check(black_box(&a), &mut scratch_1, values))),
         plain: Some(Box::new(move || by_plain(plain::check(black_box(&b), &mut scratch_2)))),
         fast: Some(Box::new(move || by_library(|values| fast::check(black_box(&c), &mut scratch_3, values)))),
@@ -229,13 +200,13 @@ fn without_plain(case: Case) -> Case {
     Case { plain: None, ..case }
 }
 
-fn run_case(name: &str, parts: Parts) -> Case {
+fn run_case(name: &'static str, bundle: Vec<u8>) -> Case {
     const COUNT: u32 = 10_000_000;
-    let [a, b] = [(); 2].map(|()| parts.bytes());
+    let [a, b] = [bundle.clone(), bundle];
     let (mut scratch_1, mut scratch_2) = ([0; plain::SCRATCH], [0; plain::SCRATCH]);
     let arguments = [1, 2, 0];
     Case {
-        name: name.to_string(),
+        name,
         library: Box::new(move || {
             by_library(|values| raw::run(black_box(&a), &mut scratch_1, 0, arguments, COUNT, values))
         }),

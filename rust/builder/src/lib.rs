@@ -73,37 +73,6 @@ impl Parts {
         self.methods.push(Method { function, specialisers, declared: specialisers, result, body: body.to_vec() });
     }
 
-    /// The same bundle with other numbers for its classes: class `c` becomes class `numbers[c]`, and class 0, which also stands at
-    /// unused places, stays what it is.
-    pub fn renumbered(&self, numbers: &[u8]) -> Parts {
-        assert_eq!(numbers.first(), Some(&0), "class 0 stays");
-        let of = |class: u8| numbers[class as usize];
-        let mut parts = self.clone();
-        for (class, before) in self.classes.iter().enumerate() {
-            let mut parents: Vec<u8> = before.parents.iter().map(|&parent| of(parent)).collect();
-            parents.sort_unstable();
-            parts.classes[numbers[class] as usize] = Class { concrete: before.concrete, parents };
-        }
-        for signature in &mut parts.signatures {
-            signature.arguments = signature.arguments.map(of);
-            signature.result = of(signature.result);
-        }
-        for method in &mut parts.methods {
-            method.specialisers = method.specialisers.map(of);
-            method.declared = method.declared.map(of);
-            method.result = of(method.result);
-            for [_, class] in method.body.iter_mut().filter(|[operation, _]| *operation == NEW) {
-                *class = of(*class);
-            }
-        }
-        parts
-    }
-
-    /// The same bundle with its classes but for class 0 in any order, so that heirs may come before their parents.
-    pub fn shuffled(&self, random: &mut Random) -> Parts {
-        self.renumbered(&random.numbers(self.classes.len()))
-    }
-
     /// The bundle's bytes. An offset or a length that passes 65,535 is cut to two bytes, which makes a damaged bundle.
     pub fn bytes(&self) -> Vec<u8> {
         let mut sections: [Vec<u8>; 6] = Default::default();
@@ -130,21 +99,16 @@ impl Parts {
             sections[4].extend(two_bytes(2 * method.body.len()));
             sections[5].extend(method.body.iter().flatten());
         }
-        joined(&sections)
+        let mut bytes = Vec::new();
+        let mut offset = 24;
+        for section in &sections {
+            bytes.extend(two_bytes(offset));
+            bytes.extend(two_bytes(section.len()));
+            offset += section.len();
+        }
+        bytes.extend(sections.concat());
+        bytes
     }
-}
-
-/// The bundle of these six sections.
-pub fn joined(sections: &[Vec<u8>; 6]) -> Vec<u8> {
-    let mut bytes = Vec::new();
-    let mut offset = 24;
-    for section in sections {
-        bytes.extend(two_bytes(offset));
-        bytes.extend(two_bytes(section.len()));
-        offset += section.len();
-    }
-    bytes.extend(sections.concat());
-    bytes
 }
 
 fn two_bytes(number: usize) -> [u8; 2] {

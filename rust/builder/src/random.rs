@@ -41,20 +41,6 @@ impl Random {
         items[self.below(items.len())]
     }
 
-    /// Puts the items into any order.
-    pub fn shuffle<T>(&mut self, items: &mut [T]) {
-        for at in 1..items.len() {
-            items.swap(at, self.below(at + 1));
-        }
-    }
-
-    /// Other numbers for so many classes, of which class 0 keeps its own.
-    pub fn numbers(&mut self, classes: usize) -> Vec<u8> {
-        let mut numbers: Vec<u8> = (0..classes as u8).collect();
-        self.shuffle(&mut numbers[1..]);
-        numbers
-    }
-
     /// A byte.
     pub fn byte(&mut self) -> u8 {
         self.bits() as u8

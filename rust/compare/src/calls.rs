@@ -3,7 +3,7 @@
 use crate::matrix::PAIRS;
 use crate::rivals::beaten_and_rivals;
 use crate::tally::Tally;
-use crate::{cycles, exact, generate, opening, resends, rough};
+use crate::{exact, generate, opening, resends, rough};
 use builder::{hex, Method, Parts, Random, RESEND};
 use curiumtoad::{raw, Answer};
 use std::ops::Range;
@@ -257,7 +257,7 @@ impl Comparer {
         }
         let lent = Lent::scratch(random);
         let number = self.call(bundle, &Call::Check, lent, random);
-        self.tally.count_check(bundle, number);
+        self.tally.checks[number as usize] += 1;
         self.hold_narrowed(bundle);
     }
 
@@ -363,9 +363,6 @@ impl Comparer {
 
     /// Counts what an opening that gave the number, and the record with it, had to tell apart.
     fn count_opening(&mut self, bundle: &[u8], number: u8, record: usize) {
-        if matches!(number, 4 | 28) {
-            self.tally.count_cycles(cycles::kinds(bundle, number, record));
-        }
         match number {
             0 => self.tally.count_buckets(opening::fullest_bucket(bundle)),
             4 | 7 => self.tally.count_misplaced(number, opening::off_by_one(bundle, number, record)),
@@ -398,11 +395,11 @@ pub fn choose(random: &mut Random, bundle: &[u8], parts: &Parts) -> Vec<Call> {
     let (function, tuple) = chooser.send();
     let count = chooser.count(bundle, function, tuple);
     calls.push(Call::RunAccepted(function, tuple, count));
-    let opened = rough::Opened::of(bundle);
-    for (function, tuple) in chooser.resent(opened.as_ref()) {
+    for (function, tuple) in chooser.resent() {
         let count = chooser.count(bundle, function, tuple);
         calls.extend([Call::Run, Call::RunAccepted].map(|call| call(function, tuple, count)));
     }
+    let opened = rough::Opened::of(bundle);
     for _ in 0..2 {
         calls.extend(chooser.rough(opened.as_ref()));
     }
@@ -469,17 +466,12 @@ impl Chooser<'_> {
         }
     }
 
-    /// A class, or one some steps down from it.
     fn walk_down(&mut self, top: u8) -> usize {
         let mut class = top as usize;
-        // A cycle has no lower end.
-        for _ in 0..self.parts.classes.len() {
-            let heir = |lower: &usize| self.parts.classes[*lower].parents.contains(&(class as u8));
-            let heirs: Vec<usize> = (0..self.parts.classes.len()).filter(heir).collect();
-            if self.random.once_in(heirs.len() + 1) {
-                break;
+        for lower in class + 1..self.parts.classes.len() {
+            if self.parts.classes[lower].parents.contains(&(class as u8)) && self.random.once_in(2) {
+                class = lower;
             }
-            class = self.random.of(&heirs);
         }
         class
     }
@@ -513,16 +505,11 @@ impl Chooser<'_> {
         (function, self.tuple(function as u8, tops, Self::class_under))
     }
 
-    /// Sends to methods that resend, or to more specific ones: one of them, and, where the bundle opens, that with the most
-    /// classes above its specialisers, which has the longest way to go.
-    fn resent(&mut self, opened: Option<&rough::Opened>) -> Vec<(u64, [u64; 3])> {
+    /// Sends to methods that resend, or to more specific ones: one of them, and that with the highest specialisers.
+    fn resent(&mut self) -> Vec<(u64, [u64; 3])> {
         let mut resending: Vec<&Method> =
             self.parts.methods.iter().filter(|method| method.body.contains(&[RESEND, 0])).collect();
-        if let Some(opened) = opened {
-            resending.sort_by_key(|method| {
-                method.specialisers.map(|class| opened.above(class.into())).iter().sum::<usize>()
-            });
-        }
+        resending.sort_by_key(|method| method.specialisers);
         let Some(last) = resending.len().checked_sub(1) else {
             return Vec::new();
         };

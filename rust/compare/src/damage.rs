@@ -1,33 +1,19 @@
 //! Bundles that need not open: damaged ones, and ones that break a limit.
 
 use crate::sections::{section, two_bytes, CLASSES, METHODS};
-use crate::{cycles, generate, long, resends};
+use crate::{generate, long, resends};
 use builder::{Parts, Random, NEW};
 
-/// A bundle, and the parts it was made from. Nearly half of the bundles are damaged. Bundles are made with classes after
-/// their parents; half of them then get another order.
+/// A bundle, and the parts it was made from. Nearly half of the bundles are damaged.
 pub fn bundle(random: &mut Random, number: usize) -> (Vec<u8>, Parts) {
-    let long = number % 20 == 9;
-    let resends = number % 10 == 4;
-    let mut parts = if long {
-        long::parts(random)
-    } else if resends {
-        resends::parts(random)
-    } else {
-        generate::parts(random, number)
-    };
-    if random.once_in(2) {
-        parts = parts.shuffled(random);
+    if number % 20 == 9 {
+        return long_bundle(random);
     }
-    if random.once_in(12) {
-        return cyclic_bundle(parts, random);
-    }
-    if long {
-        return long_bundle(parts, random);
-    }
-    if resends {
+    if number % 10 == 4 {
+        let parts = resends::parts(random);
         return (parts.bytes(), parts);
     }
+    let mut parts = generate::parts(random, number);
     match random.below(24) {
         0..=11 => (parts.bytes(), parts),
         12..=14 => {
@@ -61,17 +47,9 @@ pub fn bundle(random: &mut Random, number: usize) -> (Vec<u8>, Parts) {
     }
 }
 
-/// A bundle with cycles, and half of the time with another rule broken as well.
-fn cyclic_bundle(mut parts: Parts, random: &mut Random) -> (Vec<u8>, Parts) {
-    cycles::plant(&mut parts, random);
-    if random.once_in(2) {
-        break_rule(&mut parts, random);
-    }
-    (parts.bytes(), parts)
-}
-
 /// A long bundle: as it is, with twins, with a list out of its place, or with another rule broken.
-fn long_bundle(mut parts: Parts, random: &mut Random) -> (Vec<u8>, Parts) {
+fn long_bundle(random: &mut Random) -> (Vec<u8>, Parts) {
+    let mut parts = long::parts(random);
     match random.below(4) {
         0 => plant_twins(&mut parts, random),
         1 => return (misplaced(parts.bytes(), random), parts),
@@ -178,7 +156,7 @@ fn break_rule(parts: &mut Parts, random: &mut Random) {
     match random.below(14) {
         0 => parts.classes[0].parents.push(random.below(2) as u8),
         1 => parts.classes[class].parents.clear(),
-        2 => parts.classes[class].parents.push(absent),
+        2 => parts.classes[class].parents.push(class as u8),
         3 => {
             let parents = &mut parts.classes[class].parents;
             match parents.last().copied() {

@@ -9,7 +9,6 @@ pub struct Hierarchy {
 }
 
 impl Hierarchy {
-    /// Of a bundle that is being made, in which classes still come after their parents.
     pub fn of(parts: &Parts) -> Hierarchy {
         let mut above: Vec<u128> = Vec::new();
         let mut concrete = Vec::new();

@@ -3,7 +3,6 @@
 
 pub mod alike;
 pub mod calls;
-pub mod cycles;
 pub mod damage;
 pub mod exact;
 pub mod generate;

@@ -20,7 +20,9 @@ pub fn parts(random: &mut Random) -> Parts {
         if (2..5).contains(&kind) {
             disturb(&mut parts, random);
         }
-        random.shuffle(&mut parts.methods);
+        for at in 1..parts.methods.len() {
+            parts.methods.swap(at, random.below(at + 1));
+        }
         if generate::within(&parts, generate::WORK) {
             return parts;
         }

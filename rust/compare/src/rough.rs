@@ -28,11 +28,6 @@ impl<'a> Opened<'a> {
         (0..128).filter(move |&class| is_under(&self.matrix, class, upper))
     }
 
-    /// How many classes a class is under, itself included.
-    pub fn above(&self, class: u64) -> usize {
-        (0..128).filter(|&upper| is_under(&self.matrix, class, upper)).count()
-    }
-
     fn concretes(&self, upper: u64) -> usize {
         let records = classes(self.bundle);
         self.under(upper).filter(|&class| records[class as usize][0] == 1).count()

@@ -18,20 +18,6 @@ pub fn classes(bundle: &[u8]) -> &[[u8; 6]] {
     bundle[section(bundle, CLASSES.pair)].as_chunks().0
 }
 
-/// For each class the set of its parents, as its record and the section of lists state them, absent ones left out. None
-/// where a list is not within the section.
-pub fn parent_sets(bundle: &[u8]) -> Option<Vec<u128>> {
-    let records = classes(bundle);
-    let lists = &bundle[section(bundle, CLASSES.pair + 1)];
-    let set = |record: &[u8; 6]| {
-        let start = two_bytes(record, 2);
-        let list = lists.get(start..start + two_bytes(record, 4))?;
-        let present = list.iter().filter(|&&parent| (parent as usize) < records.len());
-        Some(present.fold(0, |set, &parent| set | 1 << parent))
-    };
-    records.iter().map(set).collect()
-}
-
 /// For each function its argument count.
 pub fn functions(bundle: &[u8]) -> &[u8] {
     &bundle[section(bundle, FUNCTIONS)]

@@ -1,26 +1,17 @@
 //! What was seen.
 
+use crate::exact;
 use crate::matrix::PAIRS;
+use crate::resends;
 use crate::rough::{self, KINDS, NARROWED};
-use crate::{cycles, exact, resends};
 use std::fmt;
 
 /// The numbers of refusals, and 0 for an answer.
-pub const NUMBERS: usize = 29;
+pub const NUMBERS: usize = 28;
 
 /// Whether a check can find the number in a bundle that it is lent scratch enough for, or 0.
 fn of_check(number: usize) -> bool {
-    matches!(number, 0..=17 | 25..=28)
-}
-
-/// Whether opening refuses by the number.
-fn of_opening(number: usize) -> bool {
-    matches!(number, 1..=9 | 28)
-}
-
-/// Whether a check can find the number in a bundle that opens, or 0.
-fn of_opened(number: usize) -> bool {
-    of_check(number) && !of_opening(number)
+    matches!(number, 0..=17 | 25..=27)
 }
 
 /// Scratches that have to be met, the first of them refused, the others filled.
@@ -44,8 +35,6 @@ pub struct Tally {
     pub differences: usize,
     /// For each number how many bundles the check gave it for.
     pub checks: [usize; NUMBERS],
-    /// The same for the bundles that open and have a class with a lower number than a parent of it.
-    pub out_of_order: [usize; NUMBERS],
     /// For each entry point, how often it gave each number.
     pub by_call: Vec<(&'static str, [usize; NUMBERS])>,
     /// How many calls were lent a scratch of each kind.
@@ -64,8 +53,6 @@ pub struct Tally {
     pub beside_twins: [usize; 2],
     /// How many bundles were refused by 4, and by 7, because a list was off by one, for each place.
     pub off_by_one: [[usize; 4]; 2],
-    /// How many bundles with cycles were of each kind.
-    pub cycles: [usize; cycles::KINDS.len()],
     /// How many rough answers were of each kind.
     pub rough: [usize; KINDS.len()],
     /// How many pairs of rough answers there were, of which the second is for classes under those of the first.
@@ -91,16 +78,9 @@ impl Tally {
         self.by_call[at].1[number as usize % NUMBERS] += 1;
     }
 
-    /// Counts a bundle by the number of its check, and whether its classes are out of order.
-    pub fn count_check(&mut self, bundle: &[u8], number: u8) {
-        let number = number as usize;
-        self.checks[number] += 1;
-        self.out_of_order[number] += (of_opened(number) && cycles::out_of_order(bundle)) as usize;
-    }
-
     /// Counts a call that takes a scratch by the scratch's length, where the call was refused for that or filled it.
     pub fn count_scratch(&mut self, number: u8, length: usize) {
-        let filled = number != 19 && !of_opening(number.into());
+        let filled = !matches!(number, 1..=9 | 19);
         let kinds = [
             number == 19 && length == plain::SCRATCH - 1,
             filled && length == plain::SCRATCH,
@@ -171,22 +151,14 @@ impl Tally {
         }
     }
 
-    /// Counts a bundle that was refused by 4 or 28 by its cycles, if it has any.
-    pub fn count_cycles(&mut self, kinds: cycles::Kinds) {
-        add(&mut self.cycles, kinds);
-    }
-
-    /// The numbers of a check that none gave, or none of a bundle with its classes out of order, the others that no call
-    /// gave, and the kinds of scratches, of answers of ancestry, lookup and rough calls, of ambiguous sends, of openings, of
-    /// cycles and of runs with resends that no call met.
+    /// The numbers of a check that none gave, the others that no call gave, and the kinds of scratches, of answers of ancestry, lookup
+    /// and rough calls, of ambiguous sends, of openings and of runs with resends that no call met.
     pub fn never_seen(&self) -> Vec<String> {
         let seen = |number: usize| match of_check(number) {
             true => self.checks[number] != 0,
             false => self.by_call.iter().any(|(_, counts)| counts[number] != 0),
         };
         let mut never: Vec<String> = (0..NUMBERS).filter(|&number| !seen(number)).map(|n| n.to_string()).collect();
-        let in_order = (0..NUMBERS).filter(|&number| of_opened(number) && self.out_of_order[number] == 0);
-        never.extend(in_order.map(|number| format!("{number} with classes out of order")));
         let [before, between] = self.beside_twins;
         let kinds = [
             (self.three_rivals, "three rivals"),
@@ -203,7 +175,6 @@ impl Tally {
             ("rough answer:", self.rough_counts()),
             ("rough answer:", self.narrowed_counts()),
             ("a run", self.resend_counts()),
-            ("a cycle", self.cycle_counts()),
         ] {
             let unmet = counts.into_iter().filter(|(count, _)| *count == 0);
             never.extend(unmet.map(|(_, kind)| format!("{what} {kind}")));
@@ -228,11 +199,6 @@ impl Tally {
     /// How many lookups that found a method were of each kind, with the kind's name.
     fn lookup_counts(&self) -> Vec<(usize, &'static str)> {
         self.lookups.into_iter().zip(exact::KINDS).collect()
-    }
-
-    /// How many bundles with cycles were of each kind, with the kind's name.
-    fn cycle_counts(&self) -> Vec<(usize, &'static str)> {
-        self.cycles.into_iter().zip(cycles::KINDS).collect()
     }
 
     /// How many rough answers were of each kind, with the kind's name.
@@ -267,13 +233,9 @@ fn listed(counts: &[(usize, &str)]) -> String {
 impl fmt::Display for Tally {
     fn fmt(&self, f: &mut fmt::Formatter<'_>) -> fmt::Result {
         writeln!(f, "{} bundles, {} calls, {} differences", self.bundles, self.calls, self.differences)?;
-        writeln!(
-            f,
-            "bundles by the number of their check (0 is accepted), and those that open with classes out of order:"
-        )?;
+        writeln!(f, "bundles by the number of their check (0 is accepted):")?;
         for (number, count) in self.checks.iter().enumerate().filter(|(number, _)| of_check(*number)) {
-            let of_these = if of_opened(number) { format!("{:8}", self.out_of_order[number]) } else { String::new() };
-            writeln!(f, "  {number:2} {count:8}{of_these}")?;
+            writeln!(f, "  {number:2} {count:8}")?;
         }
         writeln!(f, "numbers by call:")?;
         for (name, counts) in &self.by_call {
@@ -294,7 +256,6 @@ impl fmt::Display for Tally {
                 PLACES.into_iter().zip(counts).map(|(place, count)| format!("{count} where {place}")).collect();
             writeln!(f, "lists off by one, number {number}: {}", places.join(", "))?;
         }
-        writeln!(f, "cycles: {}", listed(&self.cycle_counts()))?;
         writeln!(f, "rough answers: {}", listed(&self.rough_counts()))?;
         writeln!(f, "rough answers for classes under those of others: {}", listed(&self.narrowed_counts()))?;
         let [value, spent, deep] = self.ends;

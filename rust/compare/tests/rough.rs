@@ -78,17 +78,11 @@ fn a_method_for_each_triple() {
         let axes = [(); 3].map(|()| axis(&mut random));
         let parts = grid(&axes);
         let bundle = parts.bytes();
-        // The same tree with other numbers, for which the same methods have to be found.
-        let numbers = random.numbers(128);
-        let renumbered = parts.renumbered(&numbers).bytes();
         for _ in 0..40 {
             let uppers = uppers(&mut random);
             let expected = expected(&parts, &axes, uppers);
-            let others = uppers.map(|class| numbers[class as usize]);
-            for (bundle, uppers) in [(&bundle, uppers), (&renumbered, others)] {
-                assert_eq!(by_library(bundle, uppers), expected, "{axes:?} {uppers:?} {numbers:?}");
-                assert_eq!(by_fast(bundle, uppers), expected, "{axes:?} {uppers:?} {numbers:?}");
-            }
+            assert_eq!(by_library(&bundle, uppers), expected, "{axes:?} {uppers:?}");
+            assert_eq!(by_fast(&bundle, uppers), expected, "{axes:?} {uppers:?}");
             met[(expected == Rough::Several) as usize] += 1;
         }
     }

@@ -78,8 +78,6 @@ pub enum Refusal {
     Limits,
     /// 4: this class record breaks its rule.
     Class(u64),
-    /// 28: this class inherits from itself, by one step from child to parent or more, and no lower one does.
-    Cycle(u64),
     /// 5: this function record breaks its rule.
     Function(u64),
     /// 6: this signature record breaks its rule.
@@ -115,7 +113,6 @@ impl Refusal {
             18 => Refusal::Absent,
             19 => Refusal::Scratch,
             20 => Refusal::Row,
-            28 => Refusal::Cycle(record),
             _ => never_given(reply),
         }
     }
@@ -126,7 +123,6 @@ impl Refusal {
             Refusal::Directory => Reply::new(2, &[]),
             Refusal::Limits => Reply::new(3, &[]),
             Refusal::Class(record) => Reply::new(4, &[record]),
-            Refusal::Cycle(record) => Reply::new(28, &[record]),
             Refusal::Function(record) => Reply::new(5, &[record]),
             Refusal::Signature(record) => Reply::new(6, &[record]),
             Refusal::Method(record) => Reply::new(7, &[record]),
@@ -146,7 +142,6 @@ impl fmt::Display for Refusal {
             Refusal::Directory => write!(f, "the bundle's directory is wrong"),
             Refusal::Limits => write!(f, "the bundle has too many records, or no class"),
             Refusal::Class(record) => write!(f, "class record {record} breaks its rule"),
-            Refusal::Cycle(record) => write!(f, "class {record} inherits from itself"),
             Refusal::Function(record) => write!(f, "function record {record} breaks its rule"),
             Refusal::Signature(record) => write!(f, "signature record {record} breaks its rule"),
             Refusal::Method(record) => write!(f, "method record {record} breaks its rule"),

@@ -7,8 +7,7 @@
 //! Later bytes are left alone, and so is the whole scratch where the bundle does not open or the scratch is too short.
 //!
 //! Functions, classes, methods and signatures are numbers, counted from 0; any may be passed, and one that is absent is
-//! refused. Class 0 has no parent; the other classes come in any order, heirs before their parents too. The classes of a
-//! call are three, whatever the function's argument count; unused places hold 0.
+//! refused. The classes of a call are three, whatever the function's argument count; unused places hold 0.
 //!
 //! ```
 //! use curiumtoad::{check, lookup, Lookup, Verdict, SCRATCH};
@@ -31,7 +30,7 @@ pub use answers::{
 use std::ops::Range;
 
 /// The version of the library's C functions that this crate declares.
-pub const VERSION: u32 = 6;
+pub const VERSION: u32 = 5;
 /// The least length of a scratch.
 pub const SCRATCH: usize = 2_048;
 /// The least length of a row.
@@ -60,9 +59,6 @@ pub fn version() -> u32 {
 /// assert_eq!(open(&bundle), Ok(Counts { classes: 8, functions: 1, signatures: 1, methods: 3 }));
 /// assert_eq!(open(&bundle[..23]), Err(Refusal::Length));
 /// assert_eq!(open(&[]), Err(Refusal::Length));
-/// // Class 1 is its own parent.
-/// let bundle = std::fs::read("../../bundles/own-parent.bundle")?;
-/// assert_eq!(open(&bundle), Err(Refusal::Cycle(1)));
 /// # Ok::<(), std::io::Error>(())
 /// ```
 pub fn open(bundle: &[u8]) -> Result<Counts, Refusal> {

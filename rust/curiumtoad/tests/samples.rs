@@ -31,7 +31,7 @@ fn bodies(verdict: Verdict) -> BrokenBody {
 
 #[test]
 fn accepted_samples() {
-    for name in ["chart-4", "chart-5", "loop", "one-class", "abstract-argument", "resend", "late-parent"] {
+    for name in ["chart-4", "chart-5", "loop", "one-class", "abstract-argument", "resend"] {
         assert_eq!(verdict(name), Verdict::Accepted, "{name}");
     }
 }
@@ -49,31 +49,6 @@ fn refused_samples() {
     assert_eq!(bodies(verdict("ambiguous-resend")).fault, BodyFault::AmbiguousResend);
     assert_eq!(bodies(verdict("narrow-target")).fault, BodyFault::NarrowTarget);
     assert!(matches!(verdict("resend-operand"), Verdict::Refused(Refusal::Operand(_))));
-}
-
-/// No call opens a bundle in which a class inherits from itself. In class-cycle lower classes lead to such a one.
-#[test]
-fn cycles_of_the_samples() {
-    for (name, class) in [("own-parent", 1), ("class-cycle", 4)] {
-        let bundle = sample(name);
-        let refusal = Refusal::Cycle(class);
-        let (mut scratch, mut row, mut text) = ([9; SCRATCH], [9; ROW], [9; LINE]);
-        assert_eq!(open(&bundle), Err(refusal));
-        assert_eq!(body(&bundle, 0), Err(refusal));
-        assert_eq!(ancestry(&bundle, &mut [], 0, 0), Err(refusal));
-        assert_eq!(ancestry(&bundle, &mut scratch, 0, 0), Err(refusal));
-        assert_eq!(lookup(&bundle, &mut scratch, 0, [0; 3]), Lookup::Refused(refusal));
-        assert_eq!(rough(&bundle, &mut scratch, 0, [0; 3]), Rough::Refused(refusal));
-        assert_eq!(send_type(&bundle, &mut scratch, &mut row, 0, [0; 3]), SendType::Refused(refusal));
-        assert_eq!(check(&bundle, &mut scratch), Verdict::Refused(refusal));
-        assert_eq!(witness(&bundle, &mut scratch, 0, [0; 3]), Witness::Refused(refusal));
-        assert_eq!(run(&bundle, &mut scratch, 0, [0; 3], 9), Run::Refused(refusal));
-        assert_eq!(run_accepted(&bundle, &mut scratch, 0, [0; 3], 9), AcceptedRun::Refused(refusal));
-        assert_eq!(chart(&bundle, &mut scratch, &mut text, 0, 0), Chart::Refused(refusal));
-        assert_eq!((scratch, row, text), ([9; SCRATCH], [9; ROW], [9; LINE]));
-        assert_eq!(listing(&bundle, &mut text), Some(&format!("refused 28 record {class}\n")[..]));
-        assert_eq!(refusal.to_string(), format!("class {class} inherits from itself"));
-    }
 }
 
 /// The sample chart-4 with a resend for the body of a method. Methods 0 and 1 override 2 alone, which overrides none, and 3

@@ -129,7 +129,7 @@ impl<const W: usize> Function<W> {
         let mut order: Vec<u16> = (0..methods.len() as u16).filter(|&m| methods[m as usize][0] == function).collect();
         order.sort_unstable_by_key(|&m| {
             let record = methods[m as usize];
-            std::cmp::Reverse([record[1], record[2], record[3]].map(|class| tables.ranks[class as usize]))
+            std::cmp::Reverse([record[1], record[2], record[3]])
         });
         let mut groups = [[0; 128]; 3];
         let mut applying: [Vec<Set<W>>; 3] = Default::default();
@@ -345,11 +345,11 @@ fn above<const W: usize>(tables: &Tables, order: &[u16], class: impl Fn(u16) -> 
     for (bit, &m) in order.iter().enumerate() {
         sets[class(m) as usize][bit / 64] |= 1 << (bit % 64);
     }
-    for &class in &tables.order[..tables.classes] {
-        let (start, end) = tables.lists[class as usize];
+    for number in 0..tables.classes {
+        let (start, end) = tables.lists[number];
         for &parent in &tables.parents[start as usize..end as usize] {
             let from = sets[parent as usize];
-            for (word, more) in sets[class as usize].iter_mut().zip(from) {
+            for (word, more) in sets[number].iter_mut().zip(from) {
                 *word |= more;
             }
         }

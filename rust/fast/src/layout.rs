@@ -9,10 +9,6 @@ pub struct Tables<'a> {
     pub concrete: u128,
     /// For each class the set of classes it is under; of an absent class, the empty set.
     pub ancestors: [u128; 128],
-    /// The classes in an order in which each comes after its parents.
-    pub order: [u8; 128],
-    /// For each class where it comes in that order.
-    pub ranks: [u8; 128],
     /// For each class where its parents begin and end in `parents`.
     pub lists: [(u16, u16); 128],
     pub parents: &'a [u8],
@@ -43,8 +39,6 @@ impl<'a> Tables<'a> {
             classes: classes.len(),
             concrete: 0,
             ancestors: [0; 128],
-            order: std::array::from_fn(|class| class as u8),
-            ranks: std::array::from_fn(|class| class as u8),
             lists: [(0, 0); 128],
             parents,
             functions,
@@ -78,7 +72,6 @@ impl<'a> Tables<'a> {
 
     fn read_classes(&mut self, classes: &[[u8; 6]]) -> Result<(), Broken> {
         let mut end = 0;
-        let mut late = false;
         for (number, record) in classes.iter().enumerate() {
             let broken = Err(Broken::new(4, &[number as u64]));
             let offset = two_bytes(record, 2);
@@ -92,15 +85,12 @@ impl<'a> Tables<'a> {
             let mut ancestors = 1 << number;
             let mut least = 0;
             for &parent in &self.parents[offset..next] {
-                if (parent as usize) < least || parent as usize >= classes.len() {
+                if (parent as usize) < least || parent as usize >= number {
                     return broken;
                 }
                 least = parent as usize + 1;
-                // Of a later parent the set is empty yet.
                 ancestors |= self.ancestors[parent as usize];
             }
-            // The last parent is the highest.
-            late |= least > number;
             self.ancestors[number] = ancestors;
             self.lists[number] = (offset as u16, next as u16);
             self.concrete |= (record[0] as u128) << number;
@@ -109,56 +99,7 @@ impl<'a> Tables<'a> {
         if end != self.parents.len() {
             return Err(Broken::new(4, &[classes.len() as u64 - 1]));
         }
-        if late {
-            self.put_in_order()?;
-        }
         Ok(())
-    }
-
-    /// Finds an order of the classes, and their ancestors by it; or the lowest class on a cycle.
-    fn put_in_order(&mut self) -> Result<(), Broken> {
-        let mut parents = [0u128; 128];
-        for (set, &(start, end)) in parents.iter_mut().zip(&self.lists) {
-            *set = self.parents[start as usize..end as usize].iter().fold(0, |set, &parent| set | 1 << parent);
-        }
-        let mut ranked = 0;
-        let mut waiting = u128::MAX >> (128 - self.classes);
-        // A way up from a class that waits: each class of it waits for the next one, and the last for none.
-        let mut way = [0u8; 128];
-        while waiting != 0 {
-            way[0] = waiting.trailing_zeros() as u8;
-            let (mut length, mut on_way) = (1, 1u128 << way[0]);
-            while length > 0 {
-                let class = way[length - 1];
-                let awaited = parents[class as usize] & waiting;
-                if awaited & on_way != 0 {
-                    let lowest = (0..self.classes).find(|&class| on_cycle(&parents, class));
-                    return Err(Broken::new(28, &[lowest.expect("the way comes back to itself") as u64]));
-                }
-                if awaited != 0 {
-                    way[length] = awaited.trailing_zeros() as u8;
-                    on_way |= 1 << way[length];
-                    length += 1;
-                    continue;
-                }
-                self.rank(class, ranked);
-                ranked += 1;
-                waiting &= !(1 << class);
-                on_way &= !(1 << class);
-                length -= 1;
-            }
-        }
-        Ok(())
-    }
-
-    /// Makes a class whose parents have ranks the next one in the order.
-    fn rank(&mut self, class: u8, rank: u8) {
-        self.order[rank as usize] = class;
-        self.ranks[class as usize] = rank;
-        let (start, end) = self.lists[class as usize];
-        let parents = &self.parents[start as usize..end as usize];
-        let above = parents.iter().fold(1 << class, |set, &parent| set | self.ancestors[parent as usize]);
-        self.ancestors[class as usize] = above;
     }
 
     fn check_functions(&self) -> Result<(), Broken> {
@@ -253,18 +194,6 @@ impl<'a> Tables<'a> {
         }
         Ok(())
     }
-}
-
-/// Whether a class reaches itself by one or more steps from child to parent.
-fn on_cycle(parents: &[u128; 128], class: usize) -> bool {
-    let mut reached = parents[class];
-    let mut next = reached;
-    while next != 0 {
-        let more = parents[next.trailing_zeros() as usize] & !reached;
-        reached |= more;
-        next = next & (next - 1) | more;
-    }
-    reached >> class & 1 == 1
 }
 
 /// The six sections, each of which begins where the last one ends.

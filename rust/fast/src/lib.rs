@@ -1,10 +1,8 @@
 //! Opening, ancestry, check and rough answers, optimised by hand: a peer to measure the library against.
 //!
 //! - A class's ancestors are a set of 128 bits, and so is a static type. The matrix in the scratch is these sets as they are.
-//! - The classes have an order in which each comes after its parents. It is that of the numbers where these allow it; else
-//!   one is found by going up from each class, and where that way comes back to itself there is a cycle.
-//! - The methods of a function are kept in an order in which a more specific method comes first: by the ranks of their
-//!   specialisers in the order of the classes, falling. The only method that can lead a set of applicable methods is
+//! - The methods of a function are kept in an order in which a more specific method comes first. Parents have lower
+//!   numbers, so falling order of specialisers is one. The only method that can lead a set of applicable methods is
 //!   then the first of it, and one comparison of sets says whether it does.
 //! - For each place and class one set of bits holds the methods that apply there, so narrowing is an AND.
 //! - Classes that no method tells apart at a place are tried once, and sets of methods that were found good are kept.

@@ -1,4 +1,4 @@
-//! The bundle: opening, with the numbers 1 to 9 and 28, and the tables of an opened bundle.
+//! The bundle: opening, with the numbers 1 to 9, and the tables of an opened bundle.
 
 use crate::Triple;
 
@@ -39,7 +39,7 @@ pub struct Bundle {
     pub methods: Vec<Method>,
 }
 
-/// A refusal by one of the numbers 1 to 9 or 28; all but 1 to 3 name a record.
+/// A refusal by one of the numbers 1 to 9; 4 to 9 name a record.
 pub struct Broken {
     pub number: u8,
     pub record: Option<usize>,
@@ -71,7 +71,7 @@ const SIGNATURE: usize = 5;
 const METHOD: usize = 12;
 
 impl Bundle {
-    /// Opens a bundle. Each number is tried for all its records before the next number; 28 comes between 4 and 5.
+    /// Opens a bundle. Each number is tried for all its records before the next number.
     pub fn open(bytes: &[u8]) -> Result<Bundle, Broken> {
         if bytes.len() < 24 || bytes.len() > 65_535 {
             return Err(Broken::whole(1));
@@ -80,12 +80,8 @@ impl Bundle {
         if !within_limits(&sections) {
             return Err(Broken::whole(3));
         }
-        let classes = classes(&sections).map_err(|record| Broken::record(4, record))?;
-        if let Some(lowest) = (0..classes.len()).find(|&class| above(&classes, class)[class]) {
-            return Err(Broken::record(28, lowest));
-        }
         let mut bundle = Bundle {
-            classes,
+            classes: classes(&sections).map_err(|record| Broken::record(4, record))?,
             functions: functions(&sections).map_err(|record| Broken::record(5, record))?,
             signatures: Vec::new(),
             methods: Vec::new(),
@@ -150,7 +146,6 @@ fn within_limits(sections: &Sections) -> bool {
 /// The classes, or the lowest record that breaks its rule. Lists lie in class order without gaps; what the lists leave
 /// over of the section is put to the last record.
 fn classes(sections: &Sections) -> Result<Vec<Class>, usize> {
-    let count = sections.classes.len() / CLASS;
     let mut classes = Vec::new();
     let mut end = 0;
     for (number, record) in sections.classes.chunks(CLASS).enumerate() {
@@ -160,10 +155,10 @@ fn classes(sections: &Sections) -> Result<Vec<Class>, usize> {
             return Err(number);
         }
         let parents: Vec<usize> = sections.parents[offset..offset + length].iter().map(|&p| p as usize).collect();
-        let present = parents.iter().all(|&parent| parent < count);
+        let lower = parents.iter().all(|&parent| parent < number);
         let rising = parents.windows(2).all(|pair| pair[0] < pair[1]);
         let right_length = parents.is_empty() == (number == 0);
-        if !present || !rising || !right_length {
+        if !lower || !rising || !right_length {
             return Err(number);
         }
         end = offset + length;
@@ -173,19 +168,6 @@ fn classes(sections: &Sections) -> Result<Vec<Class>, usize> {
         return Err(classes.len() - 1);
     }
     Ok(classes)
-}
-
-/// The classes that are reached from a class by one or more steps from child to parent. On a cycle it is one of them itself.
-pub fn above(classes: &[Class], class: usize) -> [bool; 128] {
-    let mut reached = [false; 128];
-    let mut steps = classes[class].parents.clone();
-    while let Some(to) = steps.pop() {
-        if !reached[to] {
-            reached[to] = true;
-            steps.extend(&classes[to].parents);
-        }
-    }
-    reached
 }
 
 fn functions(sections: &Sections) -> Result<Vec<usize>, usize> {

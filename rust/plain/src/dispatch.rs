@@ -1,6 +1,6 @@
 //! Ancestry, lookup, and where a resend goes.
 
-use crate::bundle::{self, Bundle, Method};
+use crate::bundle::{Bundle, Method};
 use crate::Triple;
 
 /// How one class stands to another.
@@ -20,14 +20,20 @@ pub struct Matrix {
 }
 
 impl Matrix {
-    /// A class is under itself, and under each class that steps from child to parent lead to.
+    /// A class is under itself and under what its parents are under. Parents have lower numbers, so their rows are done.
     pub fn of(bundle: &Bundle) -> Matrix {
-        let row = |class: usize| {
-            let mut row = bundle::above(&bundle.classes, class);
-            row[class] = true;
-            row
-        };
-        Matrix { rows: (0..bundle.classes.len()).map(row).collect() }
+        let mut rows: Vec<[bool; 128]> = Vec::new();
+        for (number, class) in bundle.classes.iter().enumerate() {
+            let mut row = [false; 128];
+            row[number] = true;
+            for &parent in &class.parents {
+                for (above, &parents_above) in row.iter_mut().zip(&rows[parent]) {
+                    *above |= parents_above;
+                }
+            }
+            rows.push(row);
+        }
+        Matrix { rows }
     }
 
     /// How class `a` stands to class `b`.

@@ -112,7 +112,7 @@ module _ {M : Type 1} {𝓤 : Ura M} (𝓛 : Logic 𝓤) (at_mem : Memory → SP
           -- the lifetime is ended, and the struct is taken back
           move ! (3 ∷ []) $ split ! $ move ! (0 ∷ 6 ∷ []) $ use2 𝓛 (later (‵ (fdead (ν ∷ κ)) ⊛ ‵ (flft κ qˡ))) (within_end 𝓛 ν κ qˡ) $ await ! tt $ split ! $
           move ! (0 ∷ 6 ∷ 3 ∷ []) $ use3 𝓛 (later (‵ (part_at R full_share ws.0 l₃ 0))) (ref_back 𝓛 R (ν ∷ κ) δ ws.0 l₃ 0) $ await ! tt $
-          use1 𝓛 (some (λ (w : Val). ‵ (fat full_share (T'.mir erased) l₃ 0 w) ⊛ ‵ (R.own ws.0 (w ∷ [])))) (part_out_at 𝓛 R refl full_share ws.0 l₃ 0 (T'.mir erased) refl) $ pick ! (λ w. split ! $
+          use1 𝓛 (some (λ (w : Val). ‵ (fat full_share (T'.mir erased) l₃ 0 w) ⊛ ‵ (R.own_val ws.0 (w ∷ [])))) (part_out_at 𝓛 R refl full_share ws.0 l₃ 0 (T'.mir erased) refl) $ pick ! (λ w. split ! $
           -- [the struct; what it owns; κ's token in two parts; …; the result; …; what the code owns; _4; …; …; _2; …; _1; …; _0; …]
           returns ! (look ! 15 refl) $ forget ! 0 refl $ forget ! 8 refl $ forget ! 11 refl $ forget ! 13 refl $ forget ! 15 refl $
           move ! (15 ∷ 16 ∷ []) $ free1 ! $ move ! (13 ∷ 14 ∷ []) $ free1 ! $ move ! (11 ∷ 12 ∷ []) $ free1 ! $ move ! (0 ∷ 10 ∷ []) $ free1 ! $ move ! (7 ∷ 8 ∷ []) $ free1 ! $ free0 ! $

@@ -1,25 +1,17 @@
 -- `preparation::begin::begin` meets its contract: a refusal leaves the scratch as it was, and otherwise it holds the matrix.
 -- Assumes nothing.
 use borrow.Author.Rules.{rules}
-use mathlib.Core.Path.{◌≡◌, ◌∙◌}
+use mathlib.Core.Path.{◌≡◌, sym, ◌∙◌}
 use mathlib.Core.Bool.{false≢true}
 use mathlib.Core.List.{List}
 use Prim.Native.Nat.{ℕ}
 use Rattle.layout.specs.Opened.{Opened}
 use Rattle.layout.specs.declared.bundle.Bundle.{Bundle}
-use Rattle.answers.specs.declared.opening.LayoutFinding.{LayoutFinding}
 use Rattle.bundle_rules.proofs.Opened.{opened_of}
-use Rattle.preparation.specs.declared.begin.Beginning.TheVariants.{Ready, Unopened, ShortScratch}
+use Rattle.preparation.specs.declared.begin.Beginning.TheVariants.{Ready}
 use Rattle.preparation.proofs.Called.{unopened, short, enough, prepared_by}
 use Rattle.preparation.proofs.begin.begin.Statement.{statement}
 use Rattle.preparation.proofs.begin.begin.Tie as tie
-
--- a refusal is not ready
-unopened_ready : {f : LayoutFinding} {t : Bundle} → Unopened f ≡ Ready t → ⊥
-unopened_ready e = false≢true (cc)
-
-short_ready : {t : Bundle} → ShortScratch ≡ Ready t → ⊥
-short_ready e = false≢true (cc)
 
 returns : tie.Need-returns
 returns c =
@@ -27,7 +19,7 @@ returns c =
     let g = o.before.before.before in
     let e = (rw c.finding.ensures at o.«open».ensures).answer in
     let r = unopened g.args.bundle.now g.args.scratch.now e in
-    record { said = r.0; filled = r.1; prepared = λ t q. absurd (unopened_ready q) }
+    record { said = r.0; filled = r.1; prepared = λ t q. absurd (false≢true (cc)) }
 
 returns-2 : tie.Need-returns-2
 returns-2 c =
@@ -36,7 +28,7 @@ returns-2 c =
     let g = o.before.before.before in
     let e = (rw k.opening.given.1 at o.«open».ensures).answer in
     let r = short g.args.bundle.now g.args.scratch.now e (search rules) in
-    record { said = r.0; filled = r.1; prepared = λ t q. absurd (short_ready q) }
+    record { said = r.0; filled = r.1; prepared = λ t q. absurd (false≢true (cc)) }
 
 fill-requires : tie.Need-fill-requires
 fill-requires c κs =

@@ -33,7 +33,7 @@ sequence c = turned c.misplaced.result (cc)
 
 parents : (c : tie.After-parents-break)
     → let a = c.before.before.before.before.before.before.before.before.before.before.before.args in
-    parents_rule (class_count a.bytes.now) (parents_of a.bytes.now a.c) ≡ not c.parents-break.result
+    parents_rule a.c (parents_of a.bytes.now a.c) ≡ not c.parents-break.result
 unfolding parents_of
 parents c = turned c.parents-break.result (cc)
 

@@ -9,7 +9,8 @@ use Rattle.rules.specs.Model.{model_of}
 use Rattle.rules.specs.Scratch.{matrix_byte}
 use Rattle.rules.specs.Calls.{overwrite}
 use Rattle.rules.proofs.Overwrite.{overwrite_none, overwrite_length, overwrite_lent, lent_long}
-use Rattle.subclasses.specs.Matrix.{word_byte}
+use Rattle.layout.proofs.Opened.{counts_of}
+use Rattle.subclasses.specs.Matrix.{RowsTo, word_byte}
 use Rattle.subclasses.proofs.Rows.{rows_bytes}
 use Rattle.subclasses.proofs.matrix.fill.Statement.{statement}
 use Rattle.subclasses.proofs.matrix.fill.Tie as tie
@@ -33,9 +34,10 @@ loop-again c =
     let word = get_or s.before.rows_of_lem.result s.loop.w 0 in
     let M = model_of g.args.bytes.now in
     let next : 8 * s.loop.w + 8 ≡ 8 * (s.loop.w + 1) = omega arith in
+    let rows : RowsTo M M.classes s.before.rows_of_lem.result = rw (counts_of g.requires.0).classes at s.before.rows_of_lem.ensures in
     let written =
     overwrite_lent (8 * s.loop.w) 8 (matrix_byte M) (word_byte word) g.args.scratch.now s.loop.scratch c.before.before.put_word.new.1.0 s.loop.invariant.2
-    (λ j h. rows_bytes M _ s.before.rows_of_lem.ensures s.loop.w j (omega arith) h) c.before.before.put_word.ensures
+    (λ j h. rows_bytes M _ rows s.loop.w j (omega arith) h) c.before.before.put_word.ensures
     ∙ ap (λ (n : ℕ). overwrite n (matrix_byte M) g.args.scratch.now) next in
     (omega arith, ap length written ∙ overwrite_length _ _ _ (omega arith), written)
 

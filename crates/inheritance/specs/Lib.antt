@@ -1,4 +1,0 @@
-pub mod Order
-pub mod Rows
-pub mod Closure
-pub mod Cycle

@@ -1,5 +1,0 @@
-// Inheritance as a graph of classes: an order of them with parents first, rows of classes as words of bits, and the lowest class on a cycle.
-mod closure;
-pub mod cycle;
-pub mod order;
-pub mod rows;
