@@ -122,7 +122,7 @@ def main():
         local = dict(table)
         if p.endswith(".antt") and is_proof_of_function(p):
             for n in declared(text):
-                if wants(n) and not re.search(r"^\s*(?:pub )?(?:abbrev )?" + re.escape(n) + r"\s*:\s*\(?(?:\S+ : )?.*\btie\.", text, re.M):
+                if wants(n) and not re.search(r"^\s*(?:pub )?(?:abbrev )?" + re.escape(n) + r"\s*:\s+\S+\.(?:Need|InvT|MeasureT|invariant|decreases)-", text, re.M):
                     local[n] = respelt(n)
         brought = set()
         for m in re.finditer(r"^\s*(?:ghost )?use ([^\s{;]+?)\.?\{([^}]*)\}", text, re.M):

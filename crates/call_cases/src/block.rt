@@ -1,22 +1,28 @@
 // Blocks of numbers on standard input.
 ghost use Rattle.std.specs.Prelude.{◌≤◌};
 
-use libc::STDIN_FILENO;
+use input::read_full;
+use std::io;
+use std::io::Read;
 use test_support::buffer::byte;
 
 // No block has more numbers.
 pub(crate) const NUMBERS: usize = 12;
 
-// Reads so many bytes of standard input to the start of space, and answers whether there were so many and space holds them.
-pub(crate) fn read_first(space: &mut [u8], len: usize) -> bool {
+// Reads so many bytes of the input to the start of space, and answers whether there were so many and space holds them.
+pub(crate) fn read_first<R: Read>(
+    reader: &mut R,
+    space: &mut [u8],
+    len: usize,
+) -> io::Result<bool> {
     if len > space.len() {
-        return false;
+        return Ok(false);
     }
-    io::read_full(STDIN_FILENO, &mut space[0..len]) == len
+    Ok(read_full(reader, &mut space[..len])? == len)
 }
 
 // The numbers of a block, and whether the input had it whole. Those that the block leaves out are 0.
-#[derive(Drop)]
+#[derive(Clone, Copy)]
 pub(crate) struct Block {
     pub(crate) is_whole: bool,
     pub(crate) numbers: [usize; NUMBERS],
@@ -28,13 +34,11 @@ fn numbers_of(bytes: &[u8; 256], len: usize) -> [usize; NUMBERS]
 {
     let mut numbers = [0usize; NUMBERS];
     let mut k = 0;
-    let mut i = 0;
-    while i < len {
+    for i in 0..len {
         if k >= NUMBERS {
             return numbers;
         }
         let group = byte(bytes, i);
-        i += 1;
         numbers[k] = (numbers[k] << 7) | (group & 127);
         if group < 128 {
             k += 1;
@@ -44,14 +48,14 @@ fn numbers_of(bytes: &[u8; 256], len: usize) -> [usize; NUMBERS]
 }
 
 // A block is a byte that says how many follow, and these.
-pub(crate) fn read_block() -> Block {
+pub(crate) fn read_block<R: Read>(reader: &mut R) -> io::Result<Block> {
     let mut head = [0u8; 1];
-    let has_head = read_first(&mut head, 1);
+    let has_head = read_first(reader, &mut head, 1)?;
     let len = byte(&head, 0);
     let mut bytes = [0u8; 256];
-    let has_bytes = read_first(&mut bytes, len);
-    Block {
+    let has_bytes = read_first(reader, &mut bytes, len)?;
+    Ok(Block {
         is_whole: has_head && has_bytes,
         numbers: numbers_of(&bytes, len),
-    }
+    })
 }

@@ -17,7 +17,7 @@ use reply::Reply;
 use text::listing::listing;
 
 // The code of an entry point, how much is lent, and what is asked: an entry point takes as many of the numbers as it asks for.
-#[derive(Drop)]
+#[derive(Clone, Copy)]
 pub(crate) struct Call {
     pub(crate) entry: usize,
     pub(crate) scratch_len: usize,

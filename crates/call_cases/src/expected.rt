@@ -1,10 +1,12 @@
 // What a call has to answer and to leave.
 use crate::block::{NUMBERS, read_first};
 use reply::Reply;
+use std::io;
+use std::io::Read;
 use test_support::buffer::fill;
 
 // The reply, whether the matrix is in the scratch, and what is written to the row: bytes of the input, then zeros up to a place.
-#[derive(Drop)]
+#[derive(Clone, Copy)]
 pub(crate) struct Expected {
     pub(crate) reply: Reply,
     pub(crate) fills: bool,
@@ -30,8 +32,8 @@ impl Expected {
     }
 
     // Makes a row the expected one, and answers whether the input had all of it.
-    pub(crate) fn read_row(self, row: &mut [u8]) -> bool {
+    pub(crate) fn read_row<R: Read>(self, reader: &mut R, row: &mut [u8]) -> io::Result<bool> {
         fill(row, self.zeros_to);
-        read_first(row, self.written)
+        read_first(reader, row, self.written)
     }
 }

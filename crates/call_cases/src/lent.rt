@@ -1,5 +1,7 @@
 // The scratch and the row, which are filled before each call, so that afterwards every byte says whether it was written; and the subclass matrix.
 use crate::block::read_first;
+use std::io;
+use std::io::Read;
 use test_support::buffer::{MATRIX, MATRIX_ROW, SCRATCH, fill};
 
 // A row that is longer than the longest line of a chart, and than a type, so that a call can write past it.
@@ -14,19 +16,21 @@ pub(crate) fn unwritten_row() -> [u8; ROW] {
 }
 
 // Reads the matrix of so many classes, and answers whether it came whole. The rows of absent classes are 0.
-pub(crate) fn read_matrix(matrix: &mut [u8; SCRATCH], classes: usize) -> bool {
+pub(crate) fn read_matrix<R: Read>(
+    reader: &mut R,
+    matrix: &mut [u8; SCRATCH],
+    classes: usize,
+) -> io::Result<bool> {
     if classes > CLASSES {
-        return false;
+        return Ok(false);
     }
     fill(matrix, MATRIX);
-    read_first(matrix, MATRIX_ROW * classes)
+    read_first(reader, matrix, MATRIX_ROW * classes)
 }
 
 // Gives a scratch, where the matrix belongs, other bytes than those of the matrix, so that one which is not written shows.
 pub(crate) fn complement(scratch: &mut [u8; SCRATCH], matrix: &[u8; SCRATCH]) {
-    let mut k = 0;
-    while k < MATRIX {
+    for k in 0..MATRIX {
         scratch[k] = matrix[k] ^ 255;
-        k += 1;
     }
 }

@@ -3,6 +3,8 @@
 // docs/CASES.md has the format of the input. A call whose answer or bytes are not the expected ones gets a line with its number in the whole input,
 // counted from 0, and what came. The last lines count the calls of each entry point. A call that the input does not hold whole is not counted, so that
 // these lines show that calls are missing.
+#![tactic(auto)]
+
 mod block;
 mod call;
 mod expected;
@@ -12,19 +14,19 @@ mod replies;
 mod tally;
 
 use block::{read_block, read_first};
-use bytes::copy;
 use call::Call;
 use expected::Expected;
 use lent::{ROW, complement, read_matrix, unwritten_row};
 use replies::{UNLENT, alone};
 use reply::Reply;
+use std::io;
+use std::io::Read;
 use tally::{TALLIES, count, print_differs, print_tallies};
 use test_support::buffer::{SCRATCH, fill};
-use test_support::print::print;
 use test_support::replies::{is_same, print_reply};
 
 // What came of a call: its reply, and whether row and scratch are as they have to be.
-#[derive(Drop)]
+#[derive(Clone, Copy)]
 struct Observed {
     reply: Reply,
     is_row: bool,
@@ -36,15 +38,15 @@ impl Observed {
         self.is_row && self.is_scratch && is_same(self.reply, expected)
     }
 
-    fn print(self) {
-        print_reply(self.reply);
+    fn print(self, rt: &impl Print) -> io::Result<()> {
+        print_reply(rt, self.reply)?;
         if !self.is_row {
-            print(b" row");
+            print!(rt; " row")?;
         }
         if !self.is_scratch {
-            print(b" scratch");
+            print!(rt; " scratch")?;
         }
-        print(b"\n");
+        println!(rt;)
     }
 }
 
@@ -73,136 +75,145 @@ fn observe(
     let reply = replied(call, bundle, scratch, &mut row);
     Observed {
         reply,
-        is_row: check::same(&row, left_row),
-        is_scratch: check::same(scratch, left_scratch),
+        is_row: row.as_slice() == left_row,
+        is_scratch: *scratch == *left_scratch,
     }
 }
 
 // Counts a call, and prints it where it differs.
-fn judge(observed: Observed, reply: Reply, entry: usize, tallies: &mut [u64; TALLIES]) {
+fn judge(
+    rt: &impl Print,
+    observed: Observed,
+    reply: Reply,
+    entry: usize,
+    tallies: &mut [u64; TALLIES],
+) -> io::Result<()> {
     let is_same = observed.is_expected(reply);
     if !is_same {
-        print_differs(tallies, entry);
-        observed.print();
+        print_differs(rt, tallies, entry)?;
+        observed.print(rt)?;
     }
     count(tallies, entry, is_same);
+    Ok(())
 }
 
 // Makes the next call, and answers whether the input had it whole.
-fn run_call(
+fn run_call<R: Read>(
+    rt: &impl Print,
+    reader: &mut R,
     bundle: &[u8],
     unwritten: &[u8; SCRATCH],
     matrix: &[u8; SCRATCH],
     scratch: &mut [u8; SCRATCH],
     tallies: &mut [u64; TALLIES],
-) -> bool {
-    let asked = read_block();
-    let answered = read_block();
+) -> io::Result<bool> {
+    let asked = read_block(reader)?;
+    let answered = read_block(reader)?;
     if !asked.is_whole || !answered.is_whole {
-        return false;
+        return Ok(false);
     }
-    let asked_numbers = asked.numbers;
-    let answered_numbers = answered.numbers;
-    let call = Call::of_numbers(asked_numbers);
-    let expected = Expected::of_numbers(answered_numbers);
+    let call = Call::of_numbers(asked.numbers);
+    let expected = Expected::of_numbers(answered.numbers);
     let mut left_row = [0u8; ROW];
-    if !expected.read_row(&mut left_row) {
-        return false;
+    if !expected.read_row(reader, &mut left_row)? {
+        return Ok(false);
     }
-    copy(unwritten, scratch);
+    scratch.copy_from_slice(unwritten);
     let observed = if expected.fills {
         observe(call, bundle, scratch, matrix, &left_row)
     } else {
         observe(call, bundle, scratch, unwritten, &left_row)
     };
-    let reply = expected.reply;
-    judge(observed, reply, call.entry, tallies);
-    true
+    judge(rt, observed, expected.reply, call.entry, tallies)?;
+    Ok(true)
 }
 
 // Makes so many calls on a bundle, or fewer where the input ends.
-fn run_calls(
+fn run_calls<R: Read>(
+    rt: &impl Print,
+    reader: &mut R,
     bundle: &[u8],
     unwritten: &[u8; SCRATCH],
     matrix: &[u8; SCRATCH],
     scratch: &mut [u8; SCRATCH],
     tallies: &mut [u64; TALLIES],
     calls: usize,
-) {
-    let mut left = calls;
-    while left > 0 {
-        if !run_call(bundle, unwritten, matrix, scratch, tallies) {
-            return;
+) -> io::Result<()> {
+    for _ in 0..calls {
+        if !run_call(rt, reader, bundle, unwritten, matrix, scratch, tallies)? {
+            break;
         }
-        left -= 1;
     }
+    Ok(())
 }
 
 // Makes the calls on the next bundle, and answers whether the input had it whole.
-fn run_bundle(
+fn run_bundle<R: Read>(
+    rt: &impl Print,
+    reader: &mut R,
     space: &mut [u8],
     unwritten: &mut [u8; SCRATCH],
     matrix: &mut [u8; SCRATCH],
     scratch: &mut [u8; SCRATCH],
     tallies: &mut [u64; TALLIES],
-) -> bool {
-    let head = read_block();
+) -> io::Result<bool> {
+    let head = read_block(reader)?;
     let numbers = head.numbers;
     let len = numbers[0];
     if !head.is_whole {
-        return false;
+        return Ok(false);
     }
     if len > space.len() {
-        return false;
+        return Ok(false);
     }
-    if !read_first(space, len) {
-        return false;
+    if !read_first(reader, space, len)? {
+        return Ok(false);
     }
-    if !read_matrix(matrix, numbers[1]) {
-        return false;
+    if !read_matrix(reader, matrix, numbers[1])? {
+        return Ok(false);
     }
     complement(unwritten, matrix);
+    let bundle = &space[..len];
     run_calls(
-        &space[0..len],
-        unwritten,
-        matrix,
-        scratch,
-        tallies,
-        numbers[2],
-    );
-    true
+        rt, reader, bundle, unwritten, matrix, scratch, tallies, numbers[2],
+    )?;
+    Ok(true)
 }
 
-// A proved loop has to end, and nothing says that the input does. So the loop counts its turns down, from a number that no run uses up.
-fn run_all(
+// A proved loop has to end, and nothing says that the input does. So the loop counts its turns, up to a number that no run uses up.
+fn run_all<R: Read>(
+    rt: &impl Print,
+    reader: &mut R,
     space: &mut [u8],
     unwritten: &mut [u8; SCRATCH],
     matrix: &mut [u8; SCRATCH],
     scratch: &mut [u8; SCRATCH],
     tallies: &mut [u64; TALLIES],
-) {
-    let mut turns = u64::MAX;
-    while turns > 0 {
-        if !run_bundle(space, unwritten, matrix, scratch, tallies) {
-            return;
+) -> io::Result<()> {
+    for _ in 0..u64::MAX {
+        if !run_bundle(rt, reader, space, unwritten, matrix, scratch, tallies)? {
+            break;
         }
-        turns -= 1;
     }
+    Ok(())
 }
 
-fn main() {
-    let mut space = io::large_buffer();
+fn main(rt: HostRuntime) -> io::Result<()> {
+    let mut reader = rt.reader();
+    let mut space = [0u8; 65536];
     let mut unwritten = [0u8; SCRATCH];
     let mut matrix = [0u8; SCRATCH];
     let mut scratch = [0u8; SCRATCH];
     let mut tallies = [0u64; TALLIES];
     fill(&mut unwritten, 0);
     run_all(
+        &rt,
+        &mut reader,
         &mut space,
         &mut unwritten,
         &mut matrix,
         &mut scratch,
         &mut tallies,
-    );
-    print_tallies(&tallies);
+    )?;
+    print_tallies(&rt, &tallies)
 }

@@ -1,6 +1,5 @@
 // The body view and the body reader.
 use crate::replies::{UNLENT, UNLIKE, alone};
-use bytes::copy;
 use curiumtoad::instruction::{InstructionAnswer, nth_instruction};
 use curiumtoad::view::body_view;
 use layout::instruction::Instruction;
@@ -17,7 +16,7 @@ pub(crate) fn view_reply(bundle: &[u8], row: &mut [u8], method: usize) -> Reply 
     if part.len() > row.len() {
         return alone(UNLENT);
     }
-    copy(part, row);
+    row[..part.len()].copy_from_slice(part);
     Reply::pair(refusal, place, part.len())
 }
 
@@ -64,10 +63,8 @@ fn of_nth(answer: InstructionAnswer) -> Reply {
 // The position after so many readings from the start. A body has at most 64 instructions, so that more than 100 readings say nothing new.
 fn reached(code: &[u8], readings: usize) -> usize {
     let mut at = 0;
-    let mut left = if readings < 100 { readings } else { 100 };
-    while left > 0 {
+    for _ in 0..readings.min(100) {
         at = place_after(code, at);
-        left -= 1;
     }
     at
 }

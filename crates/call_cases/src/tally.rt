@@ -1,8 +1,8 @@
 // How many calls there were of each entry point, and how many of them differed.
 ghost use Rattle.std.specs.Prelude.{◌<◌};
 
+use std::io;
 use test_support::counts::add_one;
-use test_support::print::{print, print_count};
 
 // The entry points, in the order of their codes.
 const ENTRIES: usize = 14;
@@ -12,32 +12,33 @@ pub(crate) const TALLIES: usize = 29;
 
 const ALL: usize = 28;
 
-fn print_entry(entry: usize) {
+fn entry_name(entry: usize) -> &'static str {
     match entry {
-        0 => print(b"opening"),
-        1 => print(b"view"),
-        2 => print(b"instruction"),
-        3 => print(b"reading"),
-        4 => print(b"ancestry"),
-        5 => print(b"lookup"),
-        6 => print(b"send type"),
-        7 => print(b"check"),
-        8 => print(b"witness"),
-        9 => print(b"run"),
-        10 => print(b"accepted run"),
-        11 => print(b"listing"),
-        12 => print(b"chart"),
-        13 => print(b"rough"),
-        _ => print(b"unknown"),
+        0 => "opening",
+        1 => "view",
+        2 => "instruction",
+        3 => "reading",
+        4 => "ancestry",
+        5 => "lookup",
+        6 => "send type",
+        7 => "check",
+        8 => "witness",
+        9 => "run",
+        10 => "accepted run",
+        11 => "listing",
+        12 => "chart",
+        13 => "rough",
+        _ => "unknown",
     }
 }
 
 // The start of the line for a call that differs, which is the next to be counted.
-pub(crate) fn print_differs(tallies: &[u64; TALLIES], entry: usize) {
-    print_count(b"differs ", tallies[ALL]);
-    print(b" ");
-    print_entry(entry);
-    print(b" got");
+pub(crate) fn print_differs(
+    rt: &impl Print,
+    tallies: &[u64; TALLIES],
+    entry: usize,
+) -> io::Result<()> {
+    print!(rt; "differs {} {} got", tallies[ALL], entry_name(entry))
 }
 
 pub(crate) fn count(tallies: &mut [u64; TALLIES], entry: usize, is_same: bool) {
@@ -51,19 +52,20 @@ pub(crate) fn count(tallies: &mut [u64; TALLIES], entry: usize, is_same: bool) {
     }
 }
 
-fn print_tally(tallies: &[u64; TALLIES], entry: usize)
+fn print_tally(rt: &impl Print, tallies: &[u64; TALLIES], entry: usize) -> io::Result<()>
     requires { entry < 14 }
 {
-    print_entry(entry);
-    print_count(b" cases ", tallies[entry]);
-    print_count(b" differing ", tallies[ENTRIES + entry]);
-    print(b"\n");
+    println!(rt;
+        "{} cases {} differing {}",
+        entry_name(entry),
+        tallies[entry],
+        tallies[ENTRIES + entry]
+    )
 }
 
-pub(crate) fn print_tallies(tallies: &[u64; TALLIES]) {
-    let mut entry = 0;
-    while entry < ENTRIES {
-        print_tally(tallies, entry);
-        entry += 1;
+pub(crate) fn print_tallies(rt: &impl Print, tallies: &[u64; TALLIES]) -> io::Result<()> {
+    for entry in 0..ENTRIES {
+        print_tally(rt, tallies, entry)?;
     }
+    Ok(())
 }

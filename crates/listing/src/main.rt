@@ -1,13 +1,16 @@
 // Reads a bundle from standard input and prints its listing.
+#![tactic(auto)]
+
 use input::read_bundle;
-use libc::STDOUT_FILENO;
+use std::io;
 use text::listing::{ListingAnswer, listing};
 
-fn main() {
-    let mut space = io::large_buffer();
-    let len = read_bundle(&mut space);
+fn main(rt: HostRuntime) -> io::Result<()> {
+    let mut space = [0u8; 65536];
+    let len = read_bundle(&mut rt.reader(), &mut space)?;
     let mut text = [0u8; 512];
     if let ListingAnswer::Written(n) = listing(&space[..len], &mut text) {
-        io::write_all(STDOUT_FILENO, &text[..n]);
+        rt.write_all(&text[..n])?;
     }
+    Ok(())
 }

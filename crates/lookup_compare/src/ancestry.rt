@@ -24,14 +24,11 @@ fn add_parents(bundle: &[u8], class: usize, set: &mut [u8; ROW])
     requires { class < 128 }
 {
     let count = parent_count(bundle, class);
-    let mut i = 0;
-    while i < count {
+    for i in 0..count {
         let above = parent(bundle, class, i);
-        i += 1;
-        if above >= CLASSES {
-            continue;
+        if above < CLASSES {
+            add(set, above);
         }
-        add(set, above);
     }
 }
 
@@ -42,13 +39,10 @@ pub(crate) fn all_above(bundle: &[u8], class: usize) -> [u8; ROW] {
         return set;
     }
     add(&mut set, class);
-    let mut left = class + 1;
-    while left > 0 {
-        left -= 1;
-        if !has(&set, left) {
-            continue;
+    for under in (0..class + 1).rev() {
+        if has(&set, under) {
+            add_parents(bundle, under, &mut set);
         }
-        add_parents(bundle, left, &mut set);
     }
     set
 }

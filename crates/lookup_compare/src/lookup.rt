@@ -33,24 +33,20 @@ fn all_same(classes: Places, others: Places) -> bool {
 fn mark_applicable(bundle: &[u8], function: usize, args: Places, marks: &mut [u8; 512]) -> usize {
     let methods = method_count(bundle);
     let mut count = 0;
-    let mut m = 0;
-    while m < methods {
-        let candidate = m;
-        m += 1;
-        if function_of(bundle, candidate) != function {
+    for m in 0..methods {
+        if function_of(bundle, m) != function {
             continue;
         }
-        if !all_under(bundle, args, specialisers(bundle, candidate)) {
-            continue;
+        if all_under(bundle, args, specialisers(bundle, m)) {
+            marks[m] = 1;
+            count += 1;
         }
-        marks[candidate] = 1;
-        count += 1;
     }
     count
 }
 
 // How a method stands among the applicable ones, itself among them: how many it is at least as specific as, and how many are as specific as it.
-#[derive(Drop)]
+#[derive(Clone, Copy)]
 struct Rank {
     below: usize,
     above: usize,
@@ -63,14 +59,11 @@ fn rank_of(bundle: &[u8], applicable: &[u8; 512], method: usize) -> Rank
     let methods = method_count(bundle);
     let mut below = 0;
     let mut above = 0;
-    let mut m = 0;
-    while m < methods {
-        let other = m;
-        m += 1;
-        if applicable[other] == 0 {
+    for m in 0..methods {
+        if applicable[m] == 0 {
             continue;
         }
-        let theirs = specialisers(bundle, other);
+        let theirs = specialisers(bundle, m);
         below += one_if(all_under(bundle, mine, theirs));
         above += one_if(all_under(bundle, theirs, mine));
     }
@@ -78,7 +71,7 @@ fn rank_of(bundle: &[u8], applicable: &[u8; 512], method: usize) -> Rank
 }
 
 // The last two rivals so far.
-#[derive(Drop)]
+#[derive(Clone, Copy)]
 struct Rivals {
     newest: usize,
     next: usize,
@@ -98,7 +91,7 @@ impl Rivals {
 }
 
 // What a search through the applicable methods ends with: the method found, with its specialisers, or the last rivals.
-#[derive(Drop)]
+#[derive(Clone, Copy)]
 enum Outcome {
     Method(usize, Places),
     Rivals(Rivals),
@@ -108,10 +101,7 @@ enum Outcome {
 fn search(bundle: &[u8], applicable: &[u8; 512], count: usize) -> Outcome {
     let methods = method_count(bundle);
     let mut rivals = Rivals::new();
-    let mut m = 0;
-    while m < methods {
-        let candidate = m;
-        m += 1;
+    for candidate in 0..methods {
         if applicable[candidate] == 0 {
             continue;
         }

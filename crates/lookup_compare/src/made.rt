@@ -2,16 +2,15 @@
 ghost use Rattle.std.specs.Prelude.{◌<◌, ◌≤◌};
 
 use crate::generator::{comes_up, draw};
-use bytes::copy;
 use test_support::buffer::byte;
 
 // The place so many bytes after another. No bundle comes near the end of the numbers.
 fn after(at: usize, more: usize) -> usize {
-    std::num::wrapping_add_usize(at, more)
+    at.wrapping_add(more)
 }
 
 fn between(start: usize, end: usize) -> usize {
-    std::num::wrapping_sub_usize(end, start)
+    end.wrapping_sub(start)
 }
 
 // Writes bytes from a place on, and answers the place after them. Where there is no room nothing is written, so the bundle does not open, and that shows.
@@ -22,8 +21,9 @@ pub(crate) fn put(space: &mut [u8], at: usize, bytes: &[u8]) -> usize {
     if bytes.len() > space.len() - at {
         return at;
     }
-    copy(bytes, &mut space[at..]);
-    at + bytes.len()
+    let end = at + bytes.len();
+    space[at..end].copy_from_slice(bytes);
+    end
 }
 
 // The bytes of a number, the lower first.
@@ -40,7 +40,7 @@ fn put_byte(space: &mut [u8], at: usize, value: usize) -> usize {
 }
 
 // How large a bundle is, and how dense its inheritance: beside one sure parent each lower class is a parent by a chance of one in so many.
-#[derive(Drop)]
+#[derive(Clone, Copy)]
 pub(crate) struct Plan {
     pub(crate) classes: usize,
     pub(crate) functions: usize,
@@ -57,15 +57,11 @@ fn put_parents(space: &mut [u8], state: &mut u64, at: usize, class: usize, chanc
     }
     let sure = draw(state, class);
     let mut end = at;
-    let mut above = 0;
-    while above < class {
-        let candidate = above;
-        above += 1;
+    for above in 0..class {
         let is_drawn = comes_up(state, chance);
-        if candidate != sure && !is_drawn {
-            continue;
+        if above == sure || is_drawn {
+            end = put_byte(space, end, above);
         }
-        end = put_byte(space, end, candidate);
     }
     end
 }
@@ -82,14 +78,12 @@ fn put_classes(space: &mut [u8], state: &mut u64, parent_at: usize, plan: Plan) 
     let classes = plan.classes;
     let mut record_at = 24;
     let mut end = parent_at;
-    let mut class = 0;
-    while class < classes {
+    for class in 0..classes {
         let start = end;
         end = put_parents(space, state, start, class, plan.chance);
         let offset = between(parent_at, start);
         let len = between(start, end);
         record_at = put_class(space, record_at, draw(state, 2), offset, len);
-        class += 1;
     }
     end
 }
@@ -98,7 +92,7 @@ fn put_classes(space: &mut [u8], state: &mut u64, parent_at: usize, plan: Plan) 
 const METHOD: usize = 12;
 
 // What tells methods apart.
-#[derive(Drop)]
+#[derive(Clone, Copy)]
 struct Head {
     function: usize,
     s0: usize,
@@ -142,13 +136,11 @@ impl Head {
     // Whether one of so many methods has it.
     fn is_among(self, space: &[u8], method_at: usize, methods: usize) -> bool {
         let mut at = method_at;
-        let mut left = methods;
-        while left > 0 {
+        for _ in 0..methods {
             if self.is_at(space, at) {
                 return true;
             }
             at = after(at, METHOD);
-            left -= 1;
         }
         false
     }
@@ -193,7 +185,7 @@ fn put_method(
 }
 
 // What is written one after the other.
-#[derive(Drop)]
+#[derive(Clone, Copy)]
 enum Record {
     Function,
     // Of function 0, with class 0 at every place.
@@ -217,10 +209,8 @@ fn put_records(
     requires classes_nonzero { 0 < plan.classes }
 {
     let mut end = start;
-    let mut left = count;
-    while left > 0 {
+    for _ in 0..count {
         end = put_record(space, state, kind, start, end, plan);
-        left -= 1;
     }
     end
 }
@@ -245,7 +235,7 @@ fn put_record(
 }
 
 // Where the sections begin, and where the last ends.
-#[derive(Drop)]
+#[derive(Clone, Copy)]
 struct Sections {
     parent_at: usize,
     function_at: usize,

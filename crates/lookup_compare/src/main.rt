@@ -1,5 +1,7 @@
 // Makes bundles and compares the library with the second implementation on them: every function with every tuple of classes, abstract ones too, and
 // every pair of classes; in large bundles only the tuples of a stride. The scratch is compared twice in each bundle.
+#![tactic(auto)]
+
 mod ancestry;
 mod generator;
 mod lookup;
@@ -20,9 +22,9 @@ use matrix::put_matrix;
 use question::Question;
 use record::{arity, class_count, function_count};
 use reply::Reply;
+use std::io;
 use test_support::buffer::SCRATCH;
 use test_support::counts::add_one;
-use test_support::print::{print, print_count};
 use test_support::replies::{is_same, print_reply};
 
 const BUNDLES: usize = 64;
@@ -85,65 +87,72 @@ fn count_bundle(counts: &mut [u64; COUNTS], opens: bool) {
     }
 }
 
-fn print_counts(counts: &[u64; COUNTS]) {
-    print_count(b"lookup compared ", counts[CALLS]);
-    print_count(b" differing ", counts[DIFFERING]);
-    print_count(b" bundles ", counts[MADE]);
-    print_count(b" unopened ", counts[UNOPENED]);
-    print_count(b"\nexact ", counts[EXACT]);
-    print_count(b" inexact ", counts[INEXACT]);
-    print_count(b" missing ", counts[MISSING]);
-    print_count(b" ambiguous ", counts[AMBIGUOUS]);
-    print_count(b" same ", counts[OF_SAME]);
-    print_count(b" heir ", counts[OF_HEIR]);
-    print_count(b" neither ", counts[OF_NEITHER]);
-    print(b"\n");
+fn print_counts(rt: &impl Print, counts: &[u64; COUNTS]) -> io::Result<()> {
+    print!(rt; "lookup compared {}", counts[CALLS])?;
+    print!(rt; " differing {}", counts[DIFFERING])?;
+    print!(rt; " bundles {}", counts[MADE])?;
+    print!(rt; " unopened {}\n", counts[UNOPENED])?;
+    print!(rt; "exact {}", counts[EXACT])?;
+    print!(rt; " inexact {}", counts[INEXACT])?;
+    print!(rt; " missing {}", counts[MISSING])?;
+    print!(rt; " ambiguous {}", counts[AMBIGUOUS])?;
+    print!(rt; " same {}", counts[OF_SAME])?;
+    print!(rt; " heir {}", counts[OF_HEIR])?;
+    print!(rt; " neither {}\n", counts[OF_NEITHER])
 }
 
 // The first call that differs: its number, the bundle it is put to, what is asked, both answers, and whether the scratch is not as it has to be.
 fn print_first(
+    rt: &impl Print,
     counts: &[u64; COUNTS],
     question: Question,
     got: Reply,
     second: Reply,
     is_scratch: bool,
-) {
+) -> io::Result<()> {
     if counts[DIFFERING] > 0 {
-        return;
+        return Ok(());
     }
-    print_count(b"differs ", counts[CALLS]);
-    print_count(b" bundle ", counts[MADE]);
-    question.print();
-    print(b" got");
-    print_reply(got);
-    print(b" second");
-    print_reply(second);
+    print!(rt; "differs {} bundle {}", counts[CALLS], counts[MADE])?;
+    question.print(rt)?;
+    print!(rt; " got")?;
+    print_reply(rt, got)?;
+    print!(rt; " second")?;
+    print_reply(rt, second)?;
     if !is_scratch {
-        print(b" scratch");
+        print!(rt; " scratch")?;
     }
-    print(b"\n");
+    println!(rt;)
 }
 
 // Counts a call, by its answer and whether the scratch is as it has to be.
 fn judge(
+    rt: &impl Print,
     bundle: &[u8],
     question: Question,
     got: Reply,
     is_scratch: bool,
     counts: &mut [u64; COUNTS],
-) {
+) -> io::Result<()> {
     let second = question.second_answer(bundle);
     if !is_scratch || !is_same(got, second) {
-        print_first(counts, question, got, second, is_scratch);
+        print_first(rt, counts, question, got, second, is_scratch)?;
         add_one(counts, DIFFERING);
     }
     add_one(counts, CALLS);
     add_one(counts, kind(question, got));
+    Ok(())
 }
 
-fn compare(bundle: &[u8], scratch: &mut [u8], question: Question, counts: &mut [u64; COUNTS]) {
+fn compare(
+    rt: &impl Print,
+    bundle: &[u8],
+    scratch: &mut [u8],
+    question: Question,
+    counts: &mut [u64; COUNTS],
+) -> io::Result<()> {
     let got = question.answer(bundle, scratch);
-    judge(bundle, question, got, true, counts);
+    judge(rt, bundle, question, got, true, counts)
 }
 
 // How many tuples a function of so many arguments has where there are 128 classes. Tuples are numbered so in every bundle, which leaves numbers out.
@@ -195,50 +204,51 @@ fn is_present(tuple: usize, classes: usize) -> bool {
 
 // Compares the tuples of one function, or, where lookup is not asked, the pairs of classes.
 fn compare_tuples(
+    rt: &impl Print,
     bundle: &[u8],
     scratch: &mut [u8],
     is_lookup: bool,
     function: usize,
     arity: usize,
     counts: &mut [u64; COUNTS],
-) {
+) -> io::Result<()> {
     let classes = class_count(bundle);
-    let step = stride(classes, arity);
     let limit = tuple_limit(arity);
-    let mut next = 0;
-    while next < limit {
-        let tuple = next;
-        next += step;
-        if !is_present(tuple, classes) {
-            continue;
+    for tuple in (0..limit).step_by(stride(classes, arity)) {
+        if is_present(tuple, classes) {
+            let question = question_of(is_lookup, function, tuple);
+            compare(rt, bundle, scratch, question, counts)?;
         }
-        compare(
-            bundle,
-            scratch,
-            question_of(is_lookup, function, tuple),
-            counts,
-        );
     }
+    Ok(())
 }
 
-fn compare_functions(bundle: &[u8], scratch: &mut [u8], counts: &mut [u64; COUNTS]) {
-    let functions = function_count(bundle);
-    let mut function = 0;
-    while function < functions {
+fn compare_functions(
+    rt: &impl Print,
+    bundle: &[u8],
+    scratch: &mut [u8],
+    counts: &mut [u64; COUNTS],
+) -> io::Result<()> {
+    for function in 0..function_count(bundle) {
         let places = arity(bundle, function);
-        compare_tuples(bundle, scratch, true, function, places, counts);
-        function += 1;
+        compare_tuples(rt, bundle, scratch, true, function, places, counts)?;
     }
+    Ok(())
 }
 
 // Compares what a call leaves in a scratch that held this byte everywhere.
-fn compare_scratch(bundle: &[u8], filler: u8, counts: &mut [u64; COUNTS]) {
+fn compare_scratch(
+    rt: &impl Print,
+    bundle: &[u8],
+    filler: u8,
+    counts: &mut [u64; COUNTS],
+) -> io::Result<()> {
     let question = question_of(false, 0, 0);
     let mut scratch = [filler; SCRATCH];
     let mut left = [filler; SCRATCH];
     put_matrix(bundle, &mut left);
     let got = question.answer(bundle, &mut scratch);
-    judge(bundle, question, got, check::same(&scratch, &left), counts);
+    judge(rt, bundle, question, got, scratch == left, counts)
 }
 
 fn opens(bundle: &[u8]) -> bool {
@@ -248,17 +258,23 @@ fn opens(bundle: &[u8]) -> bool {
     }
 }
 
-fn compare_bundle(bundle: &[u8], scratch: &mut [u8], counts: &mut [u64; COUNTS]) {
+fn compare_bundle(
+    rt: &impl Print,
+    bundle: &[u8],
+    scratch: &mut [u8],
+    counts: &mut [u64; COUNTS],
+) -> io::Result<()> {
     if !opens(bundle) {
         count_bundle(counts, false);
-        return;
+        return Ok(());
     }
     // A byte that is not written cannot be right both times.
-    compare_scratch(bundle, 0, counts);
-    compare_scratch(bundle, 255, counts);
-    compare_tuples(bundle, scratch, false, 0, 2, counts);
-    compare_functions(bundle, scratch, counts);
+    compare_scratch(rt, bundle, 0, counts)?;
+    compare_scratch(rt, bundle, 255, counts)?;
+    compare_tuples(rt, bundle, scratch, false, 0, 2, counts)?;
+    compare_functions(rt, bundle, scratch, counts)?;
     count_bundle(counts, true);
+    Ok(())
 }
 
 // Bundles of four sizes take turns, and every eighth is as large as may be.
@@ -292,25 +308,29 @@ fn draw_plan(state: &mut u64, number: usize) -> Plan
     }
 }
 
-fn compare_all(space: &mut [u8], scratch: &mut [u8], counts: &mut [u64; COUNTS]) {
+fn compare_all(
+    rt: &impl Print,
+    space: &mut [u8],
+    scratch: &mut [u8],
+    counts: &mut [u64; COUNTS],
+) -> io::Result<()> {
     let mut state: u64 = 2718281828;
-    let mut number = 0;
-    while number < BUNDLES {
+    for number in 0..BUNDLES {
         let plan = draw_plan(&mut state, number);
         let len = make(space, &mut state, plan);
-        number += 1;
         if len > space.len() {
             count_bundle(counts, false);
-            continue;
+        } else {
+            compare_bundle(rt, &space[..len], scratch, counts)?;
         }
-        compare_bundle(&space[0..len], scratch, counts);
     }
+    Ok(())
 }
 
-fn main() {
-    let mut space = io::large_buffer();
+fn main(rt: HostRuntime) -> io::Result<()> {
+    let mut space = [0u8; 65536];
     let mut scratch = [0u8; SCRATCH];
     let mut counts = [0u64; COUNTS];
-    compare_all(&mut space, &mut scratch, &mut counts);
-    print_counts(&counts);
+    compare_all(&rt, &mut space, &mut scratch, &mut counts)?;
+    print_counts(&rt, &counts)
 }

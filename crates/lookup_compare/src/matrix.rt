@@ -21,9 +21,7 @@ fn put_row(bundle: &[u8], scratch: &mut [u8], class: usize)
 
 // Writes the matrix that the parents give.
 pub(crate) fn put_matrix(bundle: &[u8], scratch: &mut [u8]) {
-    let mut class = 0;
-    while class < CLASSES {
+    for class in 0..CLASSES {
         put_row(bundle, scratch, class);
-        class += 1;
     }
 }

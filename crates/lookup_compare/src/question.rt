@@ -5,10 +5,11 @@ use curiumtoad::Send;
 use curiumtoad::ancestry::ancestry;
 use curiumtoad::lookup::lookup;
 use reply::Reply;
-use test_support::print::{print, print_count, print_values};
+use std::io;
+use test_support::print::print_values;
 
 // Lookup of a send, or ancestry of the classes at its first two places. All of them are there, and unused places hold 0.
-#[derive(Drop)]
+#[derive(Clone, Copy)]
 pub(crate) struct Question {
     pub(crate) is_lookup: bool,
     pub(crate) send: Send,
@@ -38,14 +39,14 @@ impl Question {
         Reply::pair(0, standing(bundle, tuple.a0, tuple.a1), 0)
     }
 
-    pub(crate) fn print(self) {
+    pub(crate) fn print(self, rt: &impl Print) -> io::Result<()> {
         let send = self.send;
         let tuple = send.tuple;
         if self.is_lookup {
-            print_count(b" lookup ", send.function as u64);
+            print!(rt; " lookup {}", send.function)?;
         } else {
-            print(b" ancestry");
+            print!(rt; " ancestry")?;
         }
-        print_values(&[tuple.a0, tuple.a1, tuple.a2]);
+        print_values(rt, &[tuple.a0, tuple.a1, tuple.a2])
     }
 }

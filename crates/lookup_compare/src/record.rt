@@ -87,7 +87,7 @@ pub(crate) fn function_of(bundle: &[u8], method: usize) -> usize
 }
 
 // A class for each of the three places.
-#[derive(Drop)]
+#[derive(Clone, Copy)]
 pub(crate) struct Places {
     pub(crate) p0: usize,
     pub(crate) p1: usize,

@@ -41,9 +41,7 @@ fn filler_at(zeros: usize, k: usize) -> u8
 pub fn fill(space: &mut [u8], zeros: usize)
     ensures { space.new ≡ overwrite (length space.old) (filler zeros) space.old }
 {
-    let mut k = 0;
-    while k < space.len() {
+    for k in 0..space.len() {
         space[k] = filler_at(zeros, k);
-        k += 1;
     }
 }

@@ -7,6 +7,6 @@ pub fn add_one(counts: &mut [u64], k: usize)
     ensures { counts.new ≡ raised k counts.old }
 {
     if k < counts.len() {
-        counts[k] = std::num::wrapping_add_u64(counts[k], 1);
+        counts[k] = counts[k].wrapping_add(1);
     }
 }

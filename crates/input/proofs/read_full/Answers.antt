@@ -1,0 +1,10 @@
+use Rattle.std.proofs.Common.{rules}
+use Rattle.input.proofs.Read.{read_behind}
+use Rattle.input.proofs.read_full.Goals as goal
+
+pub loop-done-preserved : goal.loop-done-preserved
+loop-done-preserved g c = record {
+  within = search rules;
+  length_kept = search rules;
+  consumed = read_behind _ _ _ _ _ _ _ _ c.loop-done.invariant.within c.in_ok-n.ensures.bound.0 c.loop-done.invariant.consumed c.in_ok-n.ensures.bytes.0;
+}
