@@ -367,10 +367,9 @@ SHOWN = {
 
 def lists():
     text = "-- The sample bundles that the worked cases use, byte by byte. Made by bundles/make.py, with the files of that folder.\n"
-    text += "-- Assumes nothing.\nuse Prim.Native.Nat.{ℕ}\nuse mathlib.Core.List.{List, [], _∷_}\n"
+    text += "-- Assumes nothing.\nuse Rattle.std.specs.Prelude.{ℕ, List, [], ◌∷◌}\n"
     for name, content in SAMPLES.items():
-        words = name.replace("23", "twenty-three").split("-")
-        identifier = "".join(word.capitalize() if at else word for at, word in enumerate(words))
+        identifier = name.replace("23", "twenty_three").replace("chart-", "chart").replace("-", "_")
         text += f"\nunfoldable pub {identifier} : List ℕ\n{identifier} =\n"
         rows = [content[at:at + 16] for at in range(0, len(content), 16)]
         text += "\n".join("    " + " ∷ ".join(str(x) for x in row) + " ∷" for row in rows) + " []\n"

@@ -3,10 +3,10 @@
  * The functions are those of crates/curiumtoad_c, whose contracts say of each what is said here and are proved: for whatever is passed, number, values,
  * scratch, row and text are those of the rules (crates/rules/specs) and of the listing (crates/lines/specs, crates/text/specs).
  *
- * Build and link, on x86-64 Linux; the archive needs no library beside the C library:
+ * Build and link, on Linux for processors of the level x86-64-v2; the archive needs no library beside the C library:
  *
- *     rt staticlib curiumtoad_c            writes target/staticlib/libcuriumtoad_c.a
- *     cc -Iinclude program.c target/staticlib/libcuriumtoad_c.a
+ *     (cd crates/curiumtoad_c && rt lib)   writes crates/curiumtoad_c/out/libcuriumtoad_c.a
+ *     cc -Iinclude program.c crates/curiumtoad_c/out/libcuriumtoad_c.a
  *
  * include/example.c is a program to begin with.
  *

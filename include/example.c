@@ -1,6 +1,6 @@
 /* Lists a bundle, and runs a send of it if it is accepted: a program to begin with.
  *
- *     cc -std=c99 -Wall -Wextra -Iinclude include/example.c target/staticlib/libcuriumtoad_c.a -o example
+ *     cc -std=c99 -Wall -Wextra -Iinclude include/example.c crates/curiumtoad_c/out/libcuriumtoad_c.a -o example
  *     ./example bundles/chart-4.bundle 1000 0 2 4
  *
  * usage: example BUNDLE COUNT FUNCTION [CLASS]...

@@ -4,7 +4,7 @@
 usage: tools/names.py [DOCUMENT...]
 
 Prints FILE:LINE: NAME for each that is not there, and exits with 1 if there is any. Without arguments it reads README.md and those of bundles and rust,
-and docs, but for the notes in docs/landings, which name what was there when they were written; then it also prints each crate that README.md does not
+and docs, but for docs/PORT.md and the notes in docs/landings, which name what was there before and when they were written; then it also prints each crate that README.md does not
 name, and each must-fail edit that docs/MUST-FAIL.md does not.
 
 How a name is looked for depends on its form:
@@ -15,7 +15,7 @@ How a name is looked for depends on its form:
     typing/row_left_as_it_was                 a must-fail edit of a crate; in a table of the edits of one crate its label is enough
     subclasses::matrix::fill                  an item, a module or a crate, with as much of its path as is given
     Layout.opening                            a definition or law in a file of that name, of the crate rules or of one that is named nearby
-    lookup-rivals, LookupAnswer, read_at      a name of any kind
+    lookup_rivals, LookupAnswer, chart-3      a name of any kind
 
 A word without capital, hyphen and underscore is looked for only in the documents that name little else. Of a span with blanks, and of a command in a line
 by itself, the words that are paths are looked for. Nearby is the same paragraph or line of a table, or the head of the table.
@@ -26,7 +26,7 @@ import re
 import sys
 
 ROOT = pathlib.Path(__file__).resolve().parent.parent
-DOCUMENTS = [ROOT / "README.md", *sorted((ROOT / "docs").glob("*.md")), ROOT / "bundles" / "README.md", ROOT / "rust" / "README.md"]
+DOCUMENTS = [ROOT / "README.md", *sorted(p for p in (ROOT / "docs").glob("*.md") if p.name != "PORT.md"), ROOT / "bundles" / "README.md", ROOT / "rust" / "README.md"]
 # In these a plain word in backquotes is the name of something, unless it is a word of the language.
 NAMING = {"DECISIONS.md", "MUST-FAIL.md", "RULES.md"}
 KEYWORDS = {"else", "match", "usize"}
@@ -87,10 +87,12 @@ for text in (ROOT / "include" / "curiumtoad.h", ROOT / "rust" / "run"):
 
 
 def is_path(name, document):
-    """What a build makes is not looked for, but for programs, which are crates."""
+    """What a build makes is not looked for: what cargo makes, in target, may have any name; in a crate's out are its program and its static library."""
     parts = tuple(name.rstrip("/").split("/"))
     if "target" in parts:
-        return parts[:2] != ("target", "bin") or CRATES.issuperset(parts[2:])
+        return True
+    if parts[:1] == ("crates",) and parts[2:3] == ("out",):
+        return parts[1] in CRATES and parts[3:] in ((), (parts[1],), (f"lib{parts[1]}.a",))
     pattern = "/".join("*" if part.isalpha() and part.isupper() else part for part in parts)
     return parts in EDITS or parts in DEFINED or any(True for base in (ROOT, document.parent, ROOT / "crates") for _ in base.glob(pattern))
 
