@@ -1,0 +1,12 @@
+-- `inheritance::rows::own_row` meets its contract: one word has one bit, the other none.
+-- Assumes nothing.
+use borrow.Author.Rules.{rules}
+use Rattle.inheritance.proofs.Words.{own_set}
+use Rattle.inheritance.proofs.rows.own_row.Statement.{statement}
+use Rattle.inheritance.proofs.rows.own_row.Tie as tie
+
+returns : tie.Need-returns
+returns c k h = own_set c.args.a k (search rules) h
+
+pub own_row_spec : {M : Type 1} → statement M
+own_row_spec = tie.close (tie.spec (λ c. search rules) (λ c. search rules) (λ c. search rules) returns)
