@@ -7,7 +7,7 @@ use crate::number::{
 };
 
 // What a lookup fails by: no method applies, or none of those that do leads, with the two rivals to name.
-#[derive(Drop)]
+#[derive(Clone, Copy)]
 pub enum NotFound {
     Missing,
     Ambiguous(usize, usize),
@@ -55,7 +55,7 @@ impl NotFound {
 
 // What the coverage rule, or a send of a run, fails by: lookup's failure; or the method found has a declared class that does not hold its argument, or a result
 // class that is not under the signature's.
-#[derive(Drop)]
+#[derive(Clone, Copy)]
 pub enum Failure {
     Lookup(NotFound),
     Declared(usize),

@@ -4,7 +4,7 @@ use crate::opening::LayoutFinding;
 use crate::send::Send;
 
 // Numbers 10 to 13: the signature, a send that it covers, and what that fails by.
-#[derive(Drop)]
+#[derive(Clone, Copy)]
 pub struct CoverageFinding {
     pub signature: usize,
     pub send: Send,
@@ -12,7 +12,7 @@ pub struct CoverageFinding {
 }
 
 // Numbers 14 to 17 and 25 to 27: the method and its first broken instruction.
-#[derive(Drop)]
+#[derive(Clone, Copy)]
 pub struct BodyFinding {
     pub number: u8,
     pub method: usize,
@@ -20,7 +20,7 @@ pub struct BodyFinding {
 }
 
 // What a refused check found; number 19, which is none of the three, has a case of its own.
-#[derive(Drop)]
+#[derive(Clone, Copy)]
 pub enum Finding {
     Layout(LayoutFinding),
     Scratch,
@@ -29,7 +29,7 @@ pub enum Finding {
 }
 
 // Accepted, or refused with what was found.
-#[derive(Drop)]
+#[derive(Clone, Copy)]
 pub enum Verdict {
     Accepted,
     Refused(Finding),

@@ -10,7 +10,7 @@ use crate::number::{
 use layout::bundle::Bundle;
 
 // The rules on records, in the order of their numbers 4 to 9.
-#[derive(Drop)]
+#[derive(Clone, Copy)]
 pub enum Rule {
     Class,
     Function,
@@ -36,7 +36,7 @@ impl Rule {
 }
 
 // Numbers 1 to 3; from 4 on the rule, with the record that breaks it.
-#[derive(Drop)]
+#[derive(Clone, Copy)]
 pub enum LayoutFinding {
     Length,
     Directory,
@@ -69,7 +69,7 @@ impl LayoutFinding {
     }
 }
 
-#[derive(Drop)]
+#[derive(Clone, Copy)]
 pub enum Opening {
     Opened(Bundle),
     Refused(LayoutFinding),

@@ -6,7 +6,7 @@ use crate::number::{ABSENT, SHORT_BUFFER, SHORT_SCRATCH};
 use crate::opening::LayoutFinding;
 
 // Numbers 1 to 9, 19, 20 and 18, in the order in which they are tried.
-#[derive(Drop)]
+#[derive(Clone, Copy)]
 pub enum Refusal {
     Layout(LayoutFinding),
     Scratch,

@@ -6,7 +6,7 @@ ghost use Rattle.answers.specs.Send.{send_values};
 use layout::bytes::class_at;
 
 // A class for each place, unused places 0.
-#[derive(Drop)]
+#[derive(Clone, Copy)]
 pub struct Tuple {
     pub a0: usize,
     pub a1: usize,
@@ -14,7 +14,7 @@ pub struct Tuple {
 }
 
 // The function and its argument classes.
-#[derive(Drop)]
+#[derive(Clone, Copy)]
 pub struct Send {
     pub function: usize,
     pub tuple: Tuple,

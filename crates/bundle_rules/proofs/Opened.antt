@@ -1,14 +1,11 @@
 -- An opening that answers with tables has opened.
 -- Assumes nothing.
-use Prim.Native.Nat.{ℕ, ◌≤◌}
-use native.Mathlib.Omega.{arith}
+use Prim.Native.Nat.{ℕ}
 use mathlib.Core.Path.{sym}
 use mathlib.Core.List.{List}
 use Rattle.layout.specs.Opened.{Opened, opened}
 use Rattle.layout.specs.declared.bundle.Bundle.{Bundle}
 use Rattle.answers.specs.declared.opening.Opening.TheVariants as answer
-use Rattle.answers.specs.declared.opening.Rule.{Rule}
-use Rattle.answers.specs.declared.opening.Rule.TheVariants as rule
 use Rattle.answers.specs.Opening.{Opens}
 
 pub opened_of : {b : List ℕ} {t : Bundle} → Opens b (answer.Opened t) → Opened b t

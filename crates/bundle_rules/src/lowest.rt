@@ -16,7 +16,7 @@ use record_rules::signature::signature_breaks;
 use twin_rule::twin::has_twin;
 
 // What a search finds.
-#[derive(Drop)]
+#[derive(Clone, Copy)]
 pub(crate) enum Lowest {
     At(usize),
     None,

@@ -7,7 +7,7 @@ use layout::bundle::Bundle;
 use layout::field::is_concrete;
 
 // A list of classes: the first `count` bytes.
-#[derive(Drop)]
+#[derive(Clone, Copy)]
 pub(crate) struct Concretes {
     pub classes: [u8; Bundle::CLASSES],
     pub count: usize,

@@ -8,13 +8,12 @@ ghost use Rattle.chart_line.specs.Charted.{Charted, chart_said, length_said};
 use crate::cell::{cell, heading};
 use crate::concrete::concrete_classes;
 use answers::refusal::Refusal;
-use bytes::copy;
 use dispatch::index::index_methods;
 use layout::bundle::Bundle;
 use layout::field::arity;
 
 // The bytes of the line, which is at the start of the buffer; 18 or an earlier number; 21; 22; or 23.
-#[derive(Drop)]
+#[derive(Clone, Copy)]
 pub enum ChartAnswer {
     Written(usize),
     Refused(Refusal),
@@ -28,7 +27,8 @@ fn put(line: &mut [u8], at: usize, piece: &[u8])
     requires { at + length piece.now ≤ length line.old }
     ensures { line.new ≡ take at line.old ++ piece.now ++ drop (at + length piece.now) line.old }
 {
-    copy(piece, &mut line[at..]);
+    let end = at + piece.len();
+    line[at..end].copy_from_slice(piece);
 }
 
 // Writes the columns of line k, behind its heading.

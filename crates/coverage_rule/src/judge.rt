@@ -20,7 +20,7 @@ use subclasses::matrix::under;
 use subclasses::places::each_under;
 
 // The rule holds with a method, or fails.
-#[derive(Drop)]
+#[derive(Clone, Copy)]
 pub enum Judgement {
     Holds(usize),
     Fails(Failure),

@@ -4,7 +4,6 @@ use Prim.Native.Nat.{ℕ}
 use mathlib.Core.Path.{◌≡◌, sym, ◌∙◌}
 use mathlib.Core.List.{List}
 use borrow.Author.Tests.{leb-true}
-use Rattle.rules.specs.Layout.{gives}
 use Rattle.rules.specs.Coverage.{verdict}
 use Rattle.rules.specs.Calls.{check_call, run_call}
 use Rattle.rules.specs.Scratch.{scratch_bytes}

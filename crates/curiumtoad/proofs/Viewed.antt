@@ -1,17 +1,15 @@
 -- The answers of a call that takes a method and no scratch, and those of the body view.
 -- Assumes nothing.
 use Prim.Native.Nat.{ℕ, ◌≤◌, ◌<◌}
-use mathlib.Core.Path.{◌≡◌, refl, sym, ◌∙◌}
+use mathlib.Core.Path.{◌≡◌, sym, ◌∙◌}
 use mathlib.Core.List.{List, []}
 use lib.Dec.{ltb}
-use lib.ListN.{get_or}
 use borrow.Author.Tests.{lt-ltb, le-ltb}
 use Rattle.rules.specs.Numbers as numbers
 use Rattle.rules.specs.Layout.{Answer, gives, refuses, require, code_of}
 use Rattle.rules.specs.Model.{Model, model_of}
 use Rattle.rules.specs.Calls.{when_open, body_view_call}
 use Rattle.answers.specs.declared.opening.LayoutFinding.{LayoutFinding}
-use Rattle.answers.specs.declared.opening.LayoutFinding.TheVariants as finding
 use Rattle.answers.specs.declared.opening.Opening.TheVariants as answer
 use Rattle.layout.specs.declared.bundle.Bundle.{Bundle}
 use Rattle.answers.specs.Opening.{layout_number, layout_values, Opens}

@@ -1,12 +1,9 @@
 -- Soundness about the answers of two calls: a check that accepted a bundle, and a run of the same bundle, judge every send and every resend alike.
 -- Assumes nothing.
-use Rattle.std.specs.Prelude.{ℕ, ◌≤◌, ◌≡◌, true, List}
-use Rattle.rules.specs.Bounded.{every}
-use Rattle.rules.specs.Layout.{Answer, gives}
-use Rattle.rules.specs.Model.{Model, model_of}
-use Rattle.rules.specs.Coverage.{concrete_class}
-use Rattle.rules.specs.Machine.{Outcome, run}
-use Rattle.rules.specs.Calls.{send_rule, used, check_call, run_call}
+use Rattle.std.specs.Prelude.{ℕ, ◌≤◌, ◌≡◌, List}
+use Rattle.rules.specs.Layout.{gives}
+use Rattle.rules.specs.Model.{model_of}
+use Rattle.rules.specs.Calls.{check_call, run_call}
 use Rattle.rules.specs.Scratch.{scratch_bytes}
 use Rattle.rules.specs.Accepted.{CoveredOpening, SoundAnswer}
 use Rattle.answers.specs.declared.finding.Verdict as verdict-type

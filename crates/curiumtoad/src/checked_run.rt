@@ -14,7 +14,7 @@ use runs::run::{RunAnswer, run_in};
 use verdicts::check::check_in;
 
 // Both answers.
-#[derive(Drop)]
+#[derive(Clone, Copy)]
 pub struct CheckedRun {
     pub verdict: Verdict,
     pub outcome: RunAnswer,

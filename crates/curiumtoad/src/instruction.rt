@@ -9,7 +9,7 @@ use reader::code::code_of;
 use reader::{Reading, nth_reading};
 
 // What is read, or a refusal.
-#[derive(Drop)]
+#[derive(Clone, Copy)]
 pub enum InstructionAnswer {
     Read(Reading),
     Refused(Refusal),

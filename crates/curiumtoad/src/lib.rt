@@ -1,5 +1,7 @@
 // The entry points: whatever is passed, an answer comes back. Each opens the bundle first, refuses in the order of the rules' numbers, and leaves the work to
 // the layers below, from which the types of their answers are passed on.
+#![tactic(auto)]
+
 pub mod ancestry;
 pub mod chart;
 pub mod check;

@@ -1,5 +1,7 @@
 // The entry points for C, and for Rust outside the kit. Each function returns the number of its answer (M 11), 0 where nothing is refused, and writes eight values;
 // include/curiumtoad.h says which. Whatever is passed, an answer comes back.
+#![tactic(auto)]
+
 mod body;
 
 ghost use Rattle.std.specs.Prelude.{◌≡◌, [], ◌∷◌, ◌≤◌, length};

@@ -14,7 +14,7 @@ use layout::tuple::specialisers;
 use subclasses::places::each_under;
 
 // One method, or why none is found.
-#[derive(Drop)]
+#[derive(Clone, Copy)]
 pub enum Found {
     Method(usize),
     Fails(NotFound),

@@ -1,4 +1,5 @@
 pub mod Within
 pub mod Opened
+pub mod Lists
 pub mod Readings
 pub mod Tuples

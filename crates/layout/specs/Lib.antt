@@ -1,4 +1,5 @@
 pub mod Tables
+pub mod Listed
 pub mod Opened
 pub mod Instruction
 pub mod Bodies

@@ -8,7 +8,7 @@ use crate::directory::{
 };
 
 // A section of records: where it begins, and how many there are.
-#[derive(Drop)]
+#[derive(Clone, Copy)]
 pub struct Section {
     pub at: usize,
     pub count: usize,
@@ -27,7 +27,7 @@ fn counted(bytes: &[u8], k: usize, width: usize) -> Section
 }
 
 // The counts of records, and where each section begins; of parents and code, how many bytes there are.
-#[derive(Drop)]
+#[derive(Clone, Copy)]
 pub struct Bundle {
     pub classes: usize,
     pub functions: usize,

@@ -128,7 +128,7 @@ pub fn size(bytes: &[u8], b: Bundle, m: usize) -> usize
 }
 
 // A part of the bundle: where it begins, and how many bytes it has.
-#[derive(Drop)]
+#[derive(Clone, Copy)]
 pub struct Span {
     pub at: usize,
     pub len: usize,

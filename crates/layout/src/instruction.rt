@@ -6,7 +6,7 @@ ghost use Rattle.layout.specs.Instruction.{instr};
 use crate::bundle::Bundle;
 
 // What an operation and its operand say (M 2.8).
-#[derive(Drop)]
+#[derive(Clone, Copy)]
 pub enum Instruction {
     Arg(usize),
     New(usize),

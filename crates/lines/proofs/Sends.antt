@@ -1,7 +1,6 @@
 -- The line of a coverage finding, from its parts.
 -- Assumes nothing.
 use Prim.Native.Nat.{ℕ, ◌≤◌}
-use native.Mathlib.Omega.{arith}
 use mathlib.Core.Path.{◌≡◌, sym, ap, ◌∙◌}
 use mathlib.Core.List.{List, ◌∷◌, ◌++◌, append_assoc}
 use lib.ListN.{take}
@@ -16,7 +15,7 @@ use Rattle.answers.specs.Findings.{coverage_said}
 use Rattle.rules.specs.Ascii.{ascii}
 use Rattle.lines.specs.Text.{field, classes, methods, finding, refused_line, verdict_line}
 use Rattle.lines.specs.Appended.{send_room, methods_room, finding_room, Appended}
-use Rattle.lines.proofs.Growing.{grown_both, grown_wider, grown_as}
+use Rattle.lines.proofs.Growing.{grown_both, grown_as}
 
 -- six texts in a row
 regrouped : (r s f c m end : List ℕ) → r ++ s ++ f ++ c ++ (m ++ end) ≡ r ++ (s ++ f ++ c ++ m) ++ end

@@ -3,7 +3,7 @@ use answers::failure::Failure;
 use answers::send::Send;
 
 // A value; the step count used up; the frames used up; a send that fails; or the run is stopped by a number at an instruction of a method.
-#[derive(Drop)]
+#[derive(Clone, Copy)]
 pub enum Ending {
     Value(usize),
     Spent,
@@ -13,7 +13,7 @@ pub enum Ending {
 }
 
 // An instruction or a send is made, and leaves this frame on top; or it fails.
-#[derive(Drop)]
+#[derive(Clone, Copy)]
 pub(crate) enum Stepped {
     Made(usize),
     Failed(Ending),

@@ -2,7 +2,7 @@
 use crate::ending::Ending;
 
 // The frame on top, which has an instruction left, or how the run ended; and the steps made.
-#[derive(Drop)]
+#[derive(Clone, Copy)]
 pub(crate) enum Progress {
     Goes(usize, u32),
     Ended(Ending, u32),

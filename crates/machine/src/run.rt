@@ -20,7 +20,7 @@ use frames::frame::{FRAME_BYTES, FRAME_NUMBERS};
 use layout::bundle::Bundle;
 
 // The ending of a run and the steps made.
-#[derive(Drop)]
+#[derive(Clone, Copy)]
 pub struct Outcome {
     pub ending: Ending,
     pub steps: u32,

@@ -7,7 +7,7 @@ use layout::bundle::Bundle;
 use subclasses::matrix::{BYTES, fill};
 
 // The opened bundle, with its matrix in the scratch; 1 to 9; or 19.
-#[derive(Drop)]
+#[derive(Clone, Copy)]
 pub enum Beginning {
     Ready(Bundle),
     Unopened(LayoutFinding),

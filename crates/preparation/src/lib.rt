@@ -1,2 +1,4 @@
 // What every call that takes scratch begins with.
+#![tactic(auto)]
+
 pub mod begin;

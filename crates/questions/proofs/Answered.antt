@@ -2,21 +2,18 @@
 -- Assumes nothing.
 use Prim.Native.Nat.{ℕ, ◌≤◌, ◌<◌}
 use mathlib.Core.Path.{◌≡◌, refl, sym, ap, ◌∙◌}
-use mathlib.Core.Bool.{Bool, true, false, ◌&&◌, false≢true, and-false}
+use mathlib.Core.Bool.{Bool, true, false, false≢true, and-false}
 use mathlib.Core.Logic.{◌⊎◌, inl, inr}
 use mathlib.Core.List.{List, [], ◌∷◌, ◌++◌, append-nil}
-use lib.ListN.{length, take}
+use lib.ListN.{take}
 use borrow.Author.Tests.{lt-ltb, le-ltb, le-leb, lt-leb}
 use Rattle.rules.specs.Numbers as numbers
-use Rattle.rules.specs.Bounded.{every}
-use Rattle.rules.specs.Layout.{gives, refuses, require, places, padded}
+use Rattle.rules.specs.Layout.{gives, refuses, require}
 use Rattle.rules.specs.Model.{Model, model_of}
 use Rattle.rules.specs.Subclass.{Ancestry, ancestry}
 use Rattle.rules.specs.Lookup.{Found, found, lookup, exact}
 use Rattle.rules.specs.Types.{Static, send_type}
-use Rattle.rules.specs.Coverage.{Judgement, holds, fails, judge, covers, concrete_class, coverage_refusal}
-use Rattle.rules.specs.Machine.{Outcome, run}
-use Rattle.rules.specs.Calls.{row_bytes, send_rule, ancestry_in, found_answer, lookup_in, licensed, send_type_in, witness_rule, witness_answer, witness_in, run_in}
+use Rattle.rules.specs.Calls.{row_bytes, send_rule, ancestry_in, found_answer, lookup_in, licensed, send_type_in}
 use Rattle.layout.specs.Opened.{Opened}
 use Rattle.layout.specs.declared.bundle.Bundle.{Bundle}
 use Rattle.layout.proofs.Opened.{counts_of}
@@ -27,7 +24,6 @@ use Rattle.typing.specs.Rows.{class_types}
 use Rattle.typing.specs.Sends.{inhabited}
 use Rattle.sends.specs.Send.{Passes}
 use Rattle.questions.specs.Said.{blank}
-use Rattle.sends.proofs.Sent.{used_padded}
 
 -- The answers of the ancestry question.
 module _ {b : List ℕ} {t : Bundle} (o : Opened b t) (a c : ℕ) where

@@ -10,7 +10,7 @@ use layout::bundle::Bundle;
 use subclasses::matrix::{Ancestry, ancestry_of};
 
 // The same class, an heir, neither, or a refusal.
-#[derive(Drop)]
+#[derive(Clone, Copy)]
 pub enum AncestryAnswer {
     Same,
     Heir,

@@ -17,7 +17,7 @@ use layout::bundle::Bundle;
 use sends::send::classes_of;
 
 // The method found, and whether its specialisers are the arguments; why the send finds none; or a refusal.
-#[derive(Drop)]
+#[derive(Clone, Copy)]
 pub enum LookupAnswer {
     Method(usize, bool),
     Fails(Send, NotFound),

@@ -14,7 +14,7 @@ use typing::row::ROW_BYTES;
 use typing::send::send_type;
 
 // The type is in the row; 16, no signature licenses the send; or a refusal.
-#[derive(Drop)]
+#[derive(Clone, Copy)]
 pub enum SendTypeAnswer {
     Typed,
     Unlicensed,

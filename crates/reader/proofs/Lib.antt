@@ -1,2 +1,1 @@
 pub mod Positions
-mod Walk

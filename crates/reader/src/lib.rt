@@ -1,4 +1,6 @@
 // A method's code, and the body reader (M 10.6): it keeps a method's code and a position, and gives the instructions in their order until there are no more.
+#![tactic(auto)]
+
 pub mod code;
 
 ghost use Rattle.std.specs.Prelude.{◌≡◌};
@@ -8,14 +10,14 @@ use layout::bytes::byte_at;
 use layout::instruction::{Instruction, decoded};
 
 // The code of a method, as the body view hands it back, and the number of the instruction to read next.
-#[derive(Drop)]
+#[derive(Clone, Copy)]
 pub struct BodyReader<'a> {
     code: &'a [u8],
     at: usize,
 }
 
 // An instruction, or that none is left.
-#[derive(Drop)]
+#[derive(Clone, Copy)]
 pub enum Reading {
     Instruction(Instruction),
     End,

@@ -8,7 +8,6 @@ use mathlib.Core.List.{List, [], ◌∷◌}
 use lib.Dec.{eqb, ltb}
 use lib.ListN.{length, get_or}
 use borrow.Author.Tests.{ltb-true, lt-ltb, le-ltb, eqb-true, eq-eqb, ne_eqb}
-use Rattle.rules.specs.Bounded.{every}
 use Rattle.rules.specs.Bytes.{part}
 use Rattle.rules.specs.Layout.{tuple_rule, place_rule, rises_above, rises, every_pair, instruction_rule}
 use Rattle.rules.proofs.Lists.{agree}

@@ -1,4 +1,6 @@
 // The rule of each record: whether one class, function, signature, method or body breaks it.
+#![tactic(auto)]
+
 pub mod class;
 pub mod code;
 pub mod function;

@@ -2,7 +2,7 @@
 -- Assumes nothing.
 use Prim.Native.Nat.{ℕ}
 use mathlib.Core.Path.{◌≡◌, refl}
-use mathlib.Core.List.{List, [], ◌∷◌, ◌++◌}
+use mathlib.Core.List.{[], ◌∷◌}
 use lib.ListN.{get_or}
 use Rattle.answers.specs.declared.opening.LayoutFinding.{LayoutFinding}
 use Rattle.answers.specs.declared.opening.LayoutFinding.TheVariants as finding

@@ -1,4 +1,6 @@
 // An answer as a number and eight values, for callers that have none of the enums: C, and programs that compare answers.
+#![tactic(auto)]
+
 ghost use Rattle.std.specs.Prelude.{◌≡◌, [], ◌∷◌, ◌++◌};
 ghost use Rattle.answers.specs.Opening.{layout_number, layout_values, said};
 ghost use Rattle.answers.specs.Send.{send_values};
@@ -35,7 +37,7 @@ use upper_classes::answer::RoughAnswer;
 use verdicts::witness::WitnessAnswer;
 
 // The number of an answer (M 11), 0 where nothing is refused, and what is named beside it.
-#[derive(Drop)]
+#[derive(Clone, Copy)]
 pub struct Reply {
     pub number: u8,
     pub values: [usize; 8],

@@ -7,7 +7,7 @@ use mathlib.Core.List.{List}
 use lib.Dec.{leb, eqb}
 use borrow.Author.Tests.{leb-true, le-leb, eqb-true, eq-eqb}
 use Rattle.rules.specs.Numbers as numbers
-use Rattle.rules.specs.Bounded.{upto, any, every}
+use Rattle.rules.specs.Bounded.{upto, every}
 use Rattle.rules.specs.Layout.{Answer, gives, refuses, opening, require}
 use Rattle.rules.specs.Model.{Model, model_of}
 use Rattle.rules.specs.Coverage.{covers, covers_send, is_covered, concrete_class, verdict}

@@ -10,7 +10,7 @@ use mathlib.Core.List.Memᴰ
 use mathlib.Core.List.{List, [], ◌∷◌, map, Memᴰ}
 use mathlib.Core.Option.{Option, none, some}
 use lib.Dec.{ltb}
-use lib.ListN.{length}
+use lib.ListN.{length, get_or, drop}
 use borrow.Author.Tests.{ltb-true, ltb-false}
 use Rattle.rules.specs.Bounded.{upto, first}
 use Rattle.rules.specs.Model.{Model}
@@ -21,11 +21,14 @@ use Rattle.rules.proofs.Lists.{test, first_hit, first_miss, first_mem, first_non
 use Rattle.rules.proofs.Coverage.{prefixed_mem, tuples_mem, tuples_in}
 
 -- no two tuples come before each other
+before_apart : {xs ys us vs : List ℕ} → Before xs ys → Before us vs → us ≡ ys → vs ≡ xs → ⊥
+before_apart (here h) (here k) e g = omega (arith, h, k, ap (λ (l : List ℕ). get_or l 0 0) e, ap (λ (l : List ℕ). get_or l 0 0) g)
+before_apart (here h) (later b) e g = omega (arith, h, ap (λ (l : List ℕ). get_or l 0 0) e, ap (λ (l : List ℕ). get_or l 0 0) g)
+before_apart (later b) (here k) e g = omega (arith, k, ap (λ (l : List ℕ). get_or l 0 0) e, ap (λ (l : List ℕ). get_or l 0 0) g)
+before_apart (later b) (later c) e g = before_apart b c (ap (λ (l : List ℕ). drop 1 l) e) (ap (λ (l : List ℕ). drop 1 l) g)
+
 before_never : {xs ys : List ℕ} → Before xs ys → Before ys xs → ⊥
-before_never (here h) (here k) = omega (arith, h, k)
-before_never (here h) (later b) = omega (arith, h)
-before_never (later b) (here k) = omega (arith, k)
-before_never (later b) (later c) = before_never b c
+before_never b c = before_apart b c refl refl
 
 ordered_map : (k : ℕ) (ts : List (List ℕ)) → Ordered Before ts → Ordered Before (map (λ t. k ∷ t) ts)
 ordered_map k [] a = tt

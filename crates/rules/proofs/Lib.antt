@@ -1,11 +1,14 @@
 pub mod Lists
 pub mod Decides
 pub mod Order
+pub mod Inheritance
 pub mod Opening
 pub mod Places
 pub mod Running
 pub mod Wellformed
+pub mod Cycles
 pub mod Subclass
+pub mod Ancestry
 pub mod Selection
 pub mod Lookup
 pub mod Resend
@@ -16,6 +19,7 @@ pub mod Types
 pub mod Runs
 pub mod Machine
 pub mod Calls
+pub mod LowerParents
 pub mod Named
 pub mod Exact
 pub mod Sound

@@ -212,6 +212,11 @@ module _ {A : Type 0} where
   none_first p [] h = refl
   none_first p (y ∷ ys) h = first_miss p y ys (h y (Memᴰ.head refl)) ∙ none_first p ys (λ x m. h x (Memᴰ.tail m))
 
+  pub first_agree : (p q : A → Bool) (xs : List A) → ((x : A) → Memᴰ x xs → p x ≡ q x) → first p xs ≡ first q xs
+  unfolding first
+  first_agree p q [] h = refl
+  first_agree p q (x ∷ xs) h = rw (h x (Memᴰ.head refl), first_agree p q xs (λ y m. h y (Memᴰ.tail m)))
+
   -- a search over two lists is one over the second where the first has nothing
   pub first_append_none : (p : A → Bool) (xs ys : List A) → first p xs ≡ none → first p (xs ++ ys) ≡ first p ys
   first_append_none p [] ys e = refl
@@ -361,6 +366,9 @@ pub length_upto : (n : ℕ) → length (upto n) ≡ n
 unfolding upto
 length_upto zero = refl
 length_upto (suc n) = length-append (upto n) (n ∷ []) ∙ omega (arith, length_upto n)
+
+pub keep_upto_length : (p : ℕ → Bool) (n : ℕ) → length (keep p (upto n)) ≤ n
+keep_upto_length p n = omega (arith, keep_length p (upto n), length_upto n)
 
 pub get_d_upto : (n k d : ℕ) → k < n → get_or (upto n) k d ≡ k
 unfolding upto

@@ -9,7 +9,7 @@ use lib.Dec.{eqb}
 use lib.ListN.{length, take, drop, get_or, length-drop}
 use lib.Seq.{length-take-le, get_or-take, get_or-drop}
 use borrow.Author.Tests.{leb-true, eqb-true}
-use Rattle.rules.specs.Bounded.{sum, every}
+use Rattle.rules.specs.Bounded.{every}
 use Rattle.rules.specs.Bytes.{byte, part}
 use Rattle.rules.specs.Layout.{offset, extent, in_sequence, sequence_rule, tuple_rule, list_offset, list_length, parents_of, class_rule, signature_at, sig_tuple_at, sig_tuple_of, method_at, specialiser_tuple_at, declared_tuple_at, specialiser_tuple_of, declared_tuple_of, body_offset, body_length, code_of, method_rule, class_count, signature_count, method_count, parent_section, function_section, method_section, code_section, places, signature_bytes, method_bytes}
 use Rattle.rules.specs.Model.{Instr, decode, instructions}

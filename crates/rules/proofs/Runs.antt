@@ -78,6 +78,8 @@ module _ {M N : Model} {R : OnFrames} {E : Ending → Ending → Type 0} {S : On
   return_alike : (gs hs : List Frame) (v w : ℕ) → SettleAlike R E (returned v) gs (returned w) hs → ResumeAlike R E (return_to gs v) (return_to hs w)
   unfolding return_to
   return_alike [] [] v w (both_valued e) = both_end e
+  return_alike [] (h ∷ hs) v w a = elim a [ ]
+  return_alike (g ∷ gs) [] v w a = elim a [ ]
   return_alike (g ∷ gs) (h ∷ hs) v w (both_returned r) = proceed_alike (k.settling (push v g) gs (push w h) hs r) (λ x y a. return_alike gs hs x y a)
 
   landed_alike : {t u : Turn} → TurnAlike R E t u → ResumeAlike R E (landed t) (landed u)

@@ -12,7 +12,7 @@ use lib.Dec.{leb, ltb}
 use lib.ListN.{length, get_or, take, drop}
 use borrow.Author.Tests.{ltb-true}
 use Rattle.rules.specs.Bounded.{every, matching}
-use Rattle.rules.specs.Model.{Model, Instr, arg, new, send, resend, Wellformed, operand_rule, present, model_of}
+use Rattle.rules.specs.Model.{Model, Instr, arg, new, send, resend, Wellformed, operand_rule, model_of}
 use Rattle.rules.specs.Subclass.{subclass, under}
 use Rattle.rules.specs.Lookup.{Found, found, missing, ambiguous, applies, lookup}
 use Rattle.rules.specs.Resend.{resend_target}

@@ -1,7 +1,10 @@
 pub mod Bounded
 pub mod Bytes
 pub mod Numbers
+pub mod Inheritance
 pub mod Layout
+pub mod Cycles
+pub mod LowerParents
 pub mod Running
 pub mod Model
 pub mod Subclass

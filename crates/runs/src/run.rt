@@ -13,7 +13,7 @@ use machine::run::{Outcome, run};
 use sends::send::concrete_classes_of;
 
 // How the run ended, with the steps made; or a refusal.
-#[derive(Drop)]
+#[derive(Clone, Copy)]
 pub enum RunAnswer {
     Ended(Outcome),
     Refused(Refusal),

@@ -53,7 +53,7 @@ fn class_bytes(tuple: Tuple) -> [u8; Bundle::PLACES]
 }
 
 // Whether a send keeps its rule; where it does, the classes at its places, of which the first `count` are used, and zeros where it does not.
-#[derive(Drop)]
+#[derive(Clone, Copy)]
 pub struct Passed {
     pub is_send: bool,
     pub count: usize,

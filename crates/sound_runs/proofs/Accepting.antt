@@ -1,7 +1,7 @@
 -- A run of an accepted bundle, case by case.
 -- Assumes nothing.
 use Prim.Native.Nat.{ℕ}
-use mathlib.Core.Path.{◌≡◌, refl}
+use mathlib.Core.Path.{◌≡◌}
 use mathlib.Core.Bool.{true, false}
 use mathlib.Core.List.{List, []}
 use Rattle.rules.specs.Numbers as numbers
@@ -9,7 +9,7 @@ use Rattle.rules.specs.Bounded.{every}
 use Rattle.rules.specs.Layout.{gives, refuses, require}
 use Rattle.rules.specs.Model.{Model, model_of}
 use Rattle.rules.specs.Coverage.{concrete_class, verdict, is_covered}
-use Rattle.rules.specs.Machine.{Outcome, run}
+use Rattle.rules.specs.Machine.{run}
 use Rattle.rules.specs.Calls.{send_rule, used, run_rule}
 use Rattle.rules.specs.Sound.{SoundEnding}
 use Rattle.rules.specs.Accepted.{ended, not_accepted, not_covered, accepted_by, accepted_in}

@@ -24,7 +24,7 @@ use verdicts::check::check_in;
 
 // A class, Spent or Deep, each with the steps made; the finding of a check that did not accept; an opening send that no signature covers; or a refusal of
 // the call itself.
-#[derive(Drop)]
+#[derive(Clone, Copy)]
 pub enum AcceptedRun {
     Value(usize, u32),
     Spent(u32),

@@ -108,7 +108,7 @@ pub fn fill(bytes: &[u8], b: Bundle, scratch: &mut [u8])
 }
 
 // How a class stands to another: the same class; an heir, which is under it and not the same; or neither.
-#[derive(Drop)]
+#[derive(Clone, Copy)]
 pub enum Ancestry {
     Same,
     Heir,

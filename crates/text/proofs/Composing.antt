@@ -1,19 +1,17 @@
 -- The lines put together: the text for a bundle that opens, and for one that does not.
 -- Assumes nothing.
-use Prim.Native.Nat.{ℕ, ◌+◌, ◌≤◌, ◌<◌}
+use Prim.Native.Nat.{ℕ, ◌≤◌, ◌<◌}
 use native.Mathlib.Omega.{arith}
 use mathlib.Core.Path.{◌≡◌, refl, sym, ap, subst, ◌∙◌}
 use mathlib.Core.List.{List, [], ◌∷◌, ◌++◌}
 use mathlib.Core.Option.{Option, none, some}
 use lib.ListN.{length, get_or, take, drop, length-append}
-use lib.Seq.{length-take-le, take-length}
-use Rattle.rules.specs.Layout.{Answer, gives, refuses, opening, require}
+use lib.Seq.{length-take-le}
+use Rattle.rules.specs.Layout.{Answer, gives, refuses, opening}
 use Rattle.rules.specs.Model.{Model, Wellformed, model_of}
 use Rattle.rules.specs.Types.{Typing, typed, breaks, type_body}
 use Rattle.rules.specs.Coverage.{Judgement, holds, fails, judge, broken_method, broken_signature, coverage_refusal, body_refusal, body_verdict, tuple_verdict, coverage_verdict}
 use Rattle.rules.specs.Coverage as coverage-rules
-use Rattle.rules.specs.Calls.{when_open, on_opening, with_scratch, check_call}
-use Rattle.rules.specs.Scratch.{scratch_bytes}
 use Rattle.rules.proofs.Coverage.{broken_signature_lem}
 use Rattle.answers.specs.Opening.{layout_number, layout_values}
 use Rattle.layout.specs.declared.bundle.Bundle.{Bundle}
@@ -107,21 +105,19 @@ module _ (piece own : List ℕ) (r : ℕ) (fits : r ≤ length own) (written : t
   pub copied_short : (old : List ℕ) → length old < r → Written piece old old listing.Short
   copied_short old h = (omega (arith, h, piece_length), refl)
 
-  pub copied_written : (old new : List ℕ) → r ≤ length old → new ≡ take (length (take r own)) (take r own) ++ drop (length (take r own)) old
-      → Written piece old new (listing.Written r)
-  copied_written old new h e =
-      let all : take (length (take r own)) (take r own) ≡ piece = take-length (take r own) ∙ written in (
-        sym piece_length,
-        omega (arith, h, piece_length),
-        e ∙ ap (λ (t : List ℕ). t ++ drop (length (take r own)) old) all ∙ ap (λ (t : List ℕ). piece ++ drop (length t) old) written,
-      )
+  pub copied_written : (old new : List ℕ) → r ≤ length old → new ≡ take r own ++ drop r old → Written piece old new (listing.Written r)
+  copied_written old new h e = (
+    sym piece_length,
+    omega (arith, h, piece_length),
+    e ∙ ap (λ (t : List ℕ). t ++ drop r old) written ∙ ap (λ (n : ℕ). piece ++ drop n old) (sym piece_length),
+  )
 
 -- the same of the listing
 pub listed_short : (b own old : List ℕ) (r : ℕ) → Composed b own r → length old < r → Lists b old old listing.Short
 listed_short b own old r c h = record { written = copied_short (text.listing b) own r c.fits c.written old h }
 
 pub listed_written : (b own old new : List ℕ) (r : ℕ) → Composed b own r → r ≤ length old
-    → new ≡ take (length (take r own)) (take r own) ++ drop (length (take r own)) old → Lists b old new (listing.Written r)
+    → new ≡ take r own ++ drop r old → Lists b old new (listing.Written r)
 listed_written b own old new r c h e = record { written = copied_written (text.listing b) own r c.fits c.written old new h e }
 
 -- what is written is within the buffer

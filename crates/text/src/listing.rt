@@ -6,7 +6,6 @@ ghost use Rattle.text.specs.Listed.{OpenedAs, Composed, Told, Lists, listing_rep
 use answers::number::SHORT_BUFFER;
 use answers::opening::Opening;
 use bundle_rules::opening::open;
-use bytes::copy;
 use layout::bundle::Bundle;
 use lines::line::{counts_line, layout_line, verdict_line};
 use reply::Reply;
@@ -14,7 +13,7 @@ use subclasses::matrix::{BYTES, fill};
 use verdicts::check::check_in;
 
 // The text is at the start of the buffer, so many bytes; or the buffer is too short, and untouched.
-#[derive(Drop)]
+#[derive(Clone, Copy)]
 pub enum ListingAnswer {
     Written(usize),
     Short,
@@ -82,6 +81,6 @@ pub fn listing(bundle: &[u8], text: &mut [u8]) -> ListingAnswer
     if text.len() < n {
         return ListingAnswer::Short;
     }
-    copy(&own[..n], text);
+    text[..n].copy_from_slice(&own[..n]);
     ListingAnswer::Written(n)
 }

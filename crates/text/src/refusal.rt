@@ -10,7 +10,6 @@ ghost use Rattle.text.specs.Listed.{Written};
 use crate::listing::ListingAnswer;
 use answers::number::{ABSENT, NO_LINE, NOT_BINARY, SHORT_BUFFER, SHORT_LINE, SHORT_SCRATCH};
 use answers::refusal::Refusal;
-use bytes::copy;
 use chart_line::line::ChartAnswer;
 use lines::line::{layout_line, number_line};
 
@@ -57,6 +56,6 @@ pub fn chart_refusal(text: &mut [u8], answer: ChartAnswer) -> ListingAnswer
     if text.len() < n {
         return ListingAnswer::Short;
     }
-    copy(&own[..n], text);
+    text[..n].copy_from_slice(&own[..n]);
     ListingAnswer::Written(n)
 }

@@ -15,7 +15,7 @@ use layout::bundle::Bundle;
 use layout::field::sig_function;
 
 // That the coverage rule of a signature holds; that a send of a function finds a method; that it finds this method.
-#[derive(Drop)]
+#[derive(Clone, Copy)]
 pub enum Question {
     Rule(usize),
     Finds(usize),

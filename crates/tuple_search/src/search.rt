@@ -93,7 +93,8 @@ fn search(
     ensures chosen_len_unchanged { length chosen.new ≡ length chosen.old }
     ensures ends { Ends (model_of bytes.now) q (take (length chosen.old - unfilled) chosen.old) (drop (length chosen.old - unfilled) upper.now) chosen.old chosen.new result }
 {
-    if unfilled == 0 {
+    let is_filled = unfilled == 0;
+    if is_filled {
         return stops_filled(bytes, b, scratch, q, chosen, order, admits, set, lead);
     }
     let n = chosen.len();

@@ -20,14 +20,14 @@ use layout::field::{arity, declared, instruction, is_concrete, result, size, spe
 use layout::instruction::Instruction;
 
 // What the check says of a body: it types, or breaks by a number at an instruction.
-#[derive(Drop)]
+#[derive(Clone, Copy)]
 pub enum Typing {
     Typed,
     Breaks(u8, usize),
 }
 
 // What an instruction does: it leaves so many types, or breaks by a number.
-#[derive(Drop)]
+#[derive(Clone, Copy)]
 pub(crate) enum Effect {
     Leaves(usize),
     BreaksBy(u8),

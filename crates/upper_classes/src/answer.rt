@@ -28,7 +28,7 @@ use tuple_search::search::search_below;
 
 // The one method that every tuple below finds; some tuple finds none or two; each finds one, and not all the same; 24, no concrete class is under one of the
 // upper classes; or a refusal.
-#[derive(Drop)]
+#[derive(Clone, Copy)]
 pub enum RoughAnswer {
     One(usize),
     MayFail,

@@ -1,27 +1,20 @@
 -- The answers of a witness check, case by case.
 -- Assumes nothing.
 use Prim.Native.Nat.{ℕ, ◌≤◌, ◌<◌}
-use mathlib.Core.Path.{◌≡◌, refl, sym, ◌∙◌}
-use mathlib.Core.Bool.{Bool, true, false, ◌&&◌, false≢true, and-false}
-use mathlib.Core.Logic.{◌⊎◌, inl, inr}
+use mathlib.Core.Path.{◌≡◌, sym}
+use mathlib.Core.Bool.{true, false, ◌&&◌}
 use mathlib.Core.List.{List, [], ◌∷◌}
 use lib.ListN.{length, take}
-use borrow.Author.Tests.{lt-ltb, le-ltb, le-leb, lt-leb}
+use borrow.Author.Tests.{lt-ltb, le-ltb}
 use Rattle.rules.specs.Numbers as numbers
 use Rattle.rules.specs.Bounded.{every}
-use Rattle.rules.specs.Layout.{Answer, gives, refuses, require, places, padded}
-use Rattle.rules.specs.Model.{Model, model_of}
-use Rattle.rules.specs.Subclass.{Ancestry, ancestry}
-use Rattle.rules.specs.Lookup.{Found, found, lookup, exact}
-use Rattle.rules.specs.Types.{Static, send_type}
-use Rattle.rules.specs.Coverage.{Judgement, holds, fails, judge, covers, concrete_class, coverage_refusal}
-use Rattle.rules.specs.Machine.{Outcome, run}
-use Rattle.rules.specs.Calls.{row_bytes, send_rule, ancestry_in, found_answer, lookup_in, licensed, send_type_in, witness_rule, witness_answer, witness_in, run_in}
+use Rattle.rules.specs.Layout.{Answer, refuses, require, places, padded}
+use Rattle.rules.specs.Model.{model_of}
+use Rattle.rules.specs.Coverage.{judge, covers, concrete_class, coverage_refusal}
+use Rattle.rules.specs.Calls.{send_rule, witness_rule, witness_answer, witness_in}
 use Rattle.layout.specs.Opened.{Opened}
 use Rattle.layout.specs.declared.bundle.Bundle.{Bundle}
 use Rattle.layout.proofs.Opened.{counts_of}
-use Rattle.typing.specs.Rows.{class_types}
-use Rattle.typing.specs.Sends.{inhabited}
 use Rattle.sends.specs.Send.{Passes}
 use Rattle.sends.proofs.Sent.{used_padded}
 

@@ -19,7 +19,7 @@ use sends::covered::covers;
 use sends::send::{all_concrete, classes_of};
 
 // The rule holds, fails by 10 to 13, or a refusal.
-#[derive(Drop)]
+#[derive(Clone, Copy)]
 pub enum WitnessAnswer {
     Holds,
     Fails(CoverageFinding),

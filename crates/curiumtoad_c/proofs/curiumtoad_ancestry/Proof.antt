@@ -8,9 +8,7 @@ use Rattle.curiumtoad_c.proofs.curiumtoad_ancestry.Tie as tie
 
 returns : tie.Need-returns
 returns c =
-    let f = c.before in
-    let e = f.before.before.before.before in
-    (handed (reply ancestry_values) e.ancestry.ensures.0 f.of-ancestry.ensures c.give.ensures, e.ancestry.ensures.1)
+    (handed (reply ancestry_values) c.ancestry-answer.ensures.0 c.of_ancestry.ensures c.give.ensures, c.ancestry-answer.ensures.1)
 
 pub curiumtoad_ancestry_spec : {M : Type 1} → statement M
 curiumtoad_ancestry_spec =

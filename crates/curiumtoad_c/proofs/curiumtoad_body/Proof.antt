@@ -7,8 +7,7 @@ use Rattle.curiumtoad_c.proofs.curiumtoad_body.Tie as tie
 
 returns : tie.Need-returns
 returns c =
-    let p = c.before in
-    handed_as p.body-place.ensures c.give.ensures
+    handed_as c.body_place.ensures c.give.ensures
 
 pub curiumtoad_body_spec : {M : Type 1} → statement M
 curiumtoad_body_spec =

@@ -8,10 +8,8 @@ use Rattle.curiumtoad_c.proofs.curiumtoad_chart.Tie as tie
 
 returns : tie.Need-returns
 returns c =
-    let f = c.before in
-    let e = f.before.before.before.before.before.before in
-    let called = e.chart.ensures in
-    (handed (reply line_length) called.0 f.of-chart.ensures c.give.ensures, (called.1.0, called.1.1))
+    let called = c.chart-answer.ensures in
+    (handed (reply line_length) called.0 c.of_chart.ensures c.give.ensures, (called.1.0, called.1.1))
 
 pub curiumtoad_chart_spec : {M : Type 1} → statement M
 curiumtoad_chart_spec =

@@ -8,9 +8,7 @@ use Rattle.curiumtoad_c.proofs.curiumtoad_check.Tie as tie
 
 returns : tie.Need-returns
 returns c =
-    let f = c.before in
-    let e = f.before.before.before.before in
-    (handed (reply nothing) e.check.ensures.0 f.of-verdict.ensures c.give.ensures, e.check.ensures.1)
+    (handed (reply nothing) c.check-verdict.ensures.0 c.of_verdict.ensures c.give.ensures, c.check-verdict.ensures.1)
 
 pub curiumtoad_check_spec : {M : Type 1} → statement M
 curiumtoad_check_spec =

@@ -9,11 +9,9 @@ use Rattle.curiumtoad_c.proofs.curiumtoad_listing.Tie as tie
 
 returns : tie.Need-returns
 returns c =
-    let f = c.before in
-    let e = f.before.before.before.before in
-    let call = listed _ e.listing.result e.listing.ensures.1 in
-    let same = handed_as f.reply.ensures c.give.ensures in
-    (handed_as (ap (reply line_length) call.0) same, (call.1, λ h. told_number e.listing.result (e.listing.ensures.0 h) same))
+    let call = listed _ c.listing-answer.result c.listing-answer.ensures.1 in
+    let same = handed_as c.reply.ensures c.give.ensures in
+    (handed_as (ap (reply line_length) call.0) same, (call.1, λ h. told_number c.listing-answer.result (c.listing-answer.ensures.0 h) same))
 
 pub curiumtoad_listing_spec : {M : Type 1} → statement M
 curiumtoad_listing_spec =

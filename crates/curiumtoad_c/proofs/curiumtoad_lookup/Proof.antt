@@ -8,9 +8,7 @@ use Rattle.curiumtoad_c.proofs.curiumtoad_lookup.Tie as tie
 
 returns : tie.Need-returns
 returns c =
-    let f = c.before in
-    let e = f.before.before.before.before in
-    (handed (reply match_values) e.lookup.ensures.0 f.of-lookup.ensures c.give.ensures, e.lookup.ensures.1)
+    (handed (reply match_values) c.lookup-answer.ensures.0 c.of_lookup.ensures c.give.ensures, c.lookup-answer.ensures.1)
 
 pub curiumtoad_lookup_spec : {M : Type 1} → statement M
 curiumtoad_lookup_spec =

@@ -8,8 +8,7 @@ use Rattle.curiumtoad_c.proofs.curiumtoad_open.Tie as tie
 
 returns : tie.Need-returns
 returns c =
-    let f = c.before in
-    handed (reply counts) f.before.«open».ensures.0 f.of-opening.ensures c.give.ensures
+    handed (reply counts) c.open.ensures.0 c.of_opening.ensures c.give.ensures
 
 pub curiumtoad_open_spec : {M : Type 1} → statement M
 curiumtoad_open_spec =

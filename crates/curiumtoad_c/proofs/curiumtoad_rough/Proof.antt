@@ -8,9 +8,7 @@ use Rattle.curiumtoad_c.proofs.curiumtoad_rough.Tie as tie
 
 returns : tie.Need-returns
 returns c =
-    let f = c.before in
-    let e = f.before.before.before.before in
-    (handed (reply rough_values) e.rough.ensures.0 f.of-rough.ensures c.give.ensures, e.rough.ensures.1)
+    (handed (reply rough_values) c.rough-answer.ensures.0 c.of_rough.ensures c.give.ensures, c.rough-answer.ensures.1)
 
 pub curiumtoad_rough_spec : {M : Type 1} → statement M
 curiumtoad_rough_spec =

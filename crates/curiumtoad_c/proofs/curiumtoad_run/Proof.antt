@@ -8,9 +8,7 @@ use Rattle.curiumtoad_c.proofs.curiumtoad_run.Tie as tie
 
 returns : tie.Need-returns
 returns c =
-    let f = c.before in
-    let e = f.before.before.before.before in
-    (handed run_reply e.run.ensures.0 f.of-run.ensures c.give.ensures, e.run.ensures.1)
+    (handed run_reply c.run-answer.ensures.0 c.of_run.ensures c.give.ensures, c.run-answer.ensures.1)
 
 pub curiumtoad_run_spec : {M : Type 1} → statement M
 curiumtoad_run_spec =

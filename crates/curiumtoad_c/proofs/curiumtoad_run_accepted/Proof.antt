@@ -9,9 +9,8 @@ use Rattle.curiumtoad_c.proofs.curiumtoad_run_accepted.Tie as tie
 
 returns : tie.Need-returns
 returns c =
-    let f = c.before in
-    let e = f.before.before.before.before.run-accepted.ensures in
-    (handed accepted_reply e.0 f.of-accepted.ensures c.give.ensures, (λ o q. e.1.0 o (e.0 ∙ q), e.1.1))
+    let e = c.run_accepted-answer.ensures in
+    (handed accepted_reply e.0 c.of_accepted.ensures c.give.ensures, (λ o q. e.1.0 o (e.0 ∙ q), e.1.1))
 
 pub curiumtoad_run_accepted_spec : {M : Type 1} → statement M
 curiumtoad_run_accepted_spec =

@@ -10,12 +10,9 @@ use Rattle.curiumtoad_c.proofs.curiumtoad_send_type.Tie as tie
 
 returns : tie.Need-returns
 returns c =
-    let f = c.before in
-    let e = f.before.before.before.before.before.before in
-    let g = e.before.before.before.before.before.before in
-    let called = e.send-type.ensures in (
-      handed_blank (send_type_call g.args.bundle.now (length g.args.scratch.now) (length g.args.row.now) g.args.function (g.args.a0 ∷ g.args.a1 ∷ g.args.a2 ∷ []))
-          called.0 f.of-send-type.ensures c.give.ensures,
+    let called = c.send_type-answer.ensures in (
+      handed_blank (send_type_call c.args.bundle.now (length c.args.scratch.now) (length c.args.row.now) c.args.function (c.args.a0 ∷ c.args.a1 ∷ c.args.a2 ∷ []))
+          called.0 c.of_send_type.ensures c.give.ensures,
       (called.1.0, called.1.1),
     )
 

@@ -8,9 +8,7 @@ use Rattle.curiumtoad_c.proofs.curiumtoad_witness.Tie as tie
 
 returns : tie.Need-returns
 returns c =
-    let f = c.before in
-    let e = f.before.before.before.before in
-    (handed (reply nothing) e.witness.ensures.0 f.of-witness.ensures c.give.ensures, e.witness.ensures.1)
+    (handed (reply nothing) c.witness-answer.ensures.0 c.of_witness.ensures c.give.ensures, c.witness-answer.ensures.1)
 
 pub curiumtoad_witness_spec : {M : Type 1} → statement M
 curiumtoad_witness_spec =

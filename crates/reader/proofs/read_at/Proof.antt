@@ -12,40 +12,37 @@ use Rattle.reader.proofs.Positions.{known_pair, unknown_pair, read_past, read_pa
 use Rattle.reader.proofs.read_at.Statement.{statement}
 use Rattle.reader.proofs.read_at.Tie as tie
 
+returns-then-code-at : tie.Need-returns-then-code-at
+returns-then-code-at c = sym (read_past c.args.code.now c.args.at (search rules))
+
+returns-then-operation-gt3 : tie.Need-returns-then-operation-gt3
+returns-then-operation-gt3 c =
+    let code = c.args.code.now in
+    let at = c.args.at in
+    let operation = c.byte_at-operation.ensures.0 in
+    cc (read_pair code at (search rules), unknown_pair (byte code (2 * at)) (byte code (2 * at + 1)) (omega (arith, c.if-operation-gt3.true)))
+
 returns : tie.Need-returns
-returns c = let s = c.before.before in sym (read_past s.args.code.now s.args.at (search rules))
-
-returns-2 : tie.Need-returns-2
-returns-2 c =
-    let s = c.before.before.before.before in
-    let code = s.args.code.now in
-    let at = s.args.at in
-    let operation = c.before.byte_at.ensures.0 in
-    cc (read_pair code at (search rules), unknown_pair (byte code (2 * at)) (byte code (2 * at + 1)) (omega (arith, c.if2.true)))
-
-returns-3 : tie.Need-returns-3
-returns-3 c =
-    let k = c.before.before in
-    let s = k.before.before.before.before in
-    let code = s.args.code.now in
-    let at = s.args.at in
-    let operation = k.before.byte_at.ensures.0 in
-    let operand = c.before.byte-at2.ensures.0 in
+returns c =
+    let code = c.args.code.now in
+    let at = c.args.at in
+    let operation = c.byte_at-operation.ensures.0 in
+    let operand = c.byte_at-operand.ensures.0 in
     ap some (c.decoded.ensures ∙ (λ i. decode (operation i) (operand i)))
     ∙ sym
     (read_pair code at (search rules)
-    ∙ known_pair (byte code (2 * at)) (byte code (2 * at + 1)) (omega (arith, k.if2.false)))
+    ∙ known_pair (byte code (2 * at)) (byte code (2 * at + 1)) (omega (arith, c.if-operation-gt3.false)))
 
 pub read_at_spec : {M : Type 1} → statement M
 read_at_spec =
     tie.close
     (tie.spec
-    returns
+    returns-then-code-at
     (λ c. search rules)
     (λ c κs. search rules)
-    returns-2
+    returns-then-operation-gt3
     (λ c. search rules)
     (λ c. search rules)
     (λ c κs. search rules)
     (λ c κs. search rules)
-    returns-3)
+    returns)

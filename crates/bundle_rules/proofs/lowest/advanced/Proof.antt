@@ -8,16 +8,14 @@ use Rattle.bundle_rules.proofs.Search.{count_limit}
 use Rattle.bundle_rules.proofs.lowest.advanced.Statement.{statement}
 use Rattle.bundle_rules.proofs.lowest.advanced.Tie as tie
 
-add-result : tie.Need-overflow-add-result
-add-result c =
-    let s = c.before.before in
-    omega (arith, count_limit s.args.rule s.requires.0, s.requires.1.0, s.requires.1.1.1)
+overflow_add-result : tie.Need-overflow_add-result
+overflow_add-result c =
+    omega (arith, count_limit c.args.rule c.requires.0, c.requires.1.0, c.requires.1.1.1)
 
 returns : tie.Need-returns
 returns c =
-    let s = c.before.before in
-    let longer = sum_next (size_of s.args.rule s.args.bytes.now) s.args.k in
-    (omega (arith, longer, s.requires.1.1.0, c.list-or-body-length.ensures.0), omega (arith, s.requires.1.1.1, c.list-or-body-length.ensures.1))
+    let longer = sum_next (size_of c.args.rule c.args.bytes.now) c.args.k in
+    (omega (arith, longer, c.requires.1.1.0, c.list_or_body_length.ensures.0), omega (arith, c.requires.1.1.1, c.list_or_body_length.ensures.1))
 
 pub advanced_spec : {M : Type 1} → statement M
-advanced_spec = tie.close (tie.spec (λ c κs. search rules) add-result returns)
+advanced_spec = tie.close (tie.spec (λ c κs. search rules) overflow_add-result returns)

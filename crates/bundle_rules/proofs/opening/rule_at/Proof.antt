@@ -15,4 +15,4 @@ rule_at_spec =
     (λ c. search rules)
     (λ c. search rules)
     (λ c. search rules)
-    (λ c. let last : c.before.args.i ≡ 5 = omega arith in rw last))
+    (λ c. let last : c.args.i ≡ 5 = omega arith in rw last))

@@ -15,26 +15,24 @@ use Rattle.chart_line.proofs.Charted.{charted_arguments}
 use Rattle.chart_line.proofs.cell.cell.Statement.{statement}
 use Rattle.chart_line.proofs.cell.cell.Tie as tie
 
-returns : tie.Need-returns
+returns-then-k-eq0 : tie.Need-returns-then-k-eq0
 unfolding byte cell
-returns c =
-    c.number.ensures ∙ ap number c.before.byte_at.ensures.0 ∙ rw c.before.before.if1.true refl
+returns-then-k-eq0 c =
+    c.number.ensures ∙ ap number c.byte_at.ensures.0 ∙ rw c.if-k-eq0.true refl
 
 lookup-requires : tie.Need-lookup-requires
 lookup-requires c κs =
-    let s = c.before.before.before.before.before.before.before.before in
-    let p = s.requires in
+    let p = c.requires in
     let g = p.1.1.0 in
-    (p.0, (p.1.0, charted_arguments g (s.args.k - 1) s.args.i (omega (arith, g.line)) p.1.1.1))
+    (p.0, (p.1.0, charted_arguments g (c.args.k - 1) c.args.i (omega (arith, g.line)) p.1.1.1))
 
-returns-2 : tie.Need-returns-2
-returns-2 c =
-    let s = c.before.before.before.before.before.before.before.before.before.before in
-    let a = s.args in
+returns : tie.Need-returns
+returns c =
+    let a = c.args in
     let M = model_of a.bundle.now in
     c.entry.ensures
-    ∙ ap entry c.before.lookup.ensures
-    ∙ ap (λ (xs : List ℕ). entry (lookup M a.f (get_or xs (a.k - 1) 0 ∷ get_or a.classes.now a.i 0 ∷ []))) s.requires.1.1.0.concrete
+    ∙ ap entry c.lookup.ensures
+    ∙ ap (λ (xs : List ℕ). entry (lookup M a.f (get_or xs (a.k - 1) 0 ∷ get_or a.classes.now a.i 0 ∷ []))) c.requires.1.1.0.concrete
     ∙ sym (cell_later M a.f a.k (get_or a.classes.now a.i 0) (omega arith))
 
 pub cell_spec : {M : Type 1} → statement M
@@ -43,11 +41,11 @@ cell_spec =
     (tie.spec
     (λ c κs. search rules)
     (λ c κs. search rules)
-    returns
+    returns-then-k-eq0
     (λ c. search rules)
     (λ c. search rules)
     (λ c. search rules)
     (λ c. search rules)
     lookup-requires
     (λ c κs. search rules)
-    returns-2)
+    returns)

@@ -6,13 +6,13 @@ use Rattle.rules.specs.Chart.{digit_at}
 use Rattle.chart_line.proofs.cell.digit_at.Statement.{statement}
 use Rattle.chart_line.proofs.cell.digit_at.Tie as tie
 
+returns-then-n-power : tie.Need-returns-then-n-power
+unfolding digit_at
+returns-then-n-power c = rw (lt-ltb _ _ c.if-n-power.true)
+
 returns : tie.Need-returns
 unfolding digit_at
-returns c = rw (lt-ltb _ _ c.if1.true)
-
-returns-2 : tie.Need-returns-2
-unfolding digit_at
-returns-2 c = rw (le-ltb _ _ c.if1.false)
+returns c = rw (le-ltb _ _ c.if-n-power.false)
 
 pub digit_at_spec : {M : Type 1} → statement M
-digit_at_spec = tie.close (tie.spec returns (λ c. search rules) (λ c. search rules) (λ c. search rules) returns-2)
+digit_at_spec = tie.close (tie.spec returns-then-n-power (λ c. search rules) (λ c. search rules) (λ c. search rules) returns)

@@ -12,12 +12,12 @@ use Rattle.chart_line.proofs.cell.entry.Tie as tie
 told : (x y : Found) → x ≡ y → entry (found_of y) ≡ entry (found_of x)
 told x y e = rw e
 
-returns : tie.Need-returns
+returns-in-Method : tie.Need-returns-in-Method
 unfolding entry
-returns c = c.number.ensures ∙ told _ _ c.before.before.found.given.1
+returns-in-Method c = c.number.ensures ∙ told _ _ c.in-Method.is
 
-returns-2 : tie.Need-returns-2
-returns-2 c = c.unfound.ensures ∙ told _ _ c.before.before.found2.given.1
+returns-in-Fails : tie.Need-returns-in-Fails
+returns-in-Fails c = c.unfound.ensures ∙ told _ _ c.in-Fails.is
 
 pub entry_spec : {M : Type 1} → statement M
-entry_spec = tie.close (tie.spec (λ c. search rules) (λ c κs. search rules) (λ c. search rules) (λ c κs. search rules) returns returns-2)
+entry_spec = tie.close (tie.spec (λ c. search rules) (λ c κs. search rules) (λ c. search rules) (λ c κs. search rules) returns-in-Method returns-in-Fails)

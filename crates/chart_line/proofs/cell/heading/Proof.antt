@@ -9,15 +9,14 @@ use Rattle.chart_line.proofs.Lines.{heading_later}
 use Rattle.chart_line.proofs.cell.heading.Statement.{statement}
 use Rattle.chart_line.proofs.cell.heading.Tie as tie
 
-returns : tie.Need-returns
+returns-then-k-eq0 : tie.Need-returns-then-k-eq0
 unfolding heading
-returns c M e = rw c.if1.true
+returns-then-k-eq0 c M e = rw c.if-k-eq0.true
 
-returns-2 : tie.Need-returns-2
+returns : tie.Need-returns
 unfolding byte
-returns-2 c M e =
-    let s = c.before.before.before.before in
-    c.number.ensures ∙ rw (sym e) (ap number c.before.byte_at.ensures.0) ∙ sym (heading_later M s.args.k (omega arith))
+returns c M e =
+    c.number.ensures ∙ rw (sym e) (ap number c.byte_at.ensures.0) ∙ sym (heading_later M c.args.k (omega arith))
 
 pub heading_spec : {M : Type 1} → statement M
-heading_spec = tie.close (tie.spec returns (λ c. search rules) (λ c κs. search rules) (λ c κs. search rules) returns-2)
+heading_spec = tie.close (tie.spec returns-then-k-eq0 (λ c. search rules) (λ c κs. search rules) (λ c κs. search rules) returns)

@@ -5,13 +5,13 @@ use Rattle.rules.specs.Chart.{entry}
 use Rattle.chart_line.proofs.cell.unfound.Statement.{statement}
 use Rattle.chart_line.proofs.cell.unfound.Tie as tie
 
-returns : tie.Need-returns
+returns-in-Missing : tie.Need-returns-in-Missing
 unfolding entry
-returns c = rw c.enum_told.given.1
+returns-in-Missing c = rw c.in-Missing.is
 
-returns-2 : tie.Need-returns-2
+returns-in-Ambiguous : tie.Need-returns-in-Ambiguous
 unfolding entry
-returns-2 c = rw c.enum-told2.given.1
+returns-in-Ambiguous c = rw c.in-Ambiguous.is
 
 pub unfound_spec : {M : Type 1} → statement M
-unfound_spec = tie.close (tie.spec (λ c. search rules) (λ c. search rules) returns returns-2)
+unfound_spec = tie.close (tie.spec (λ c. search rules) (λ c. search rules) returns-in-Missing returns-in-Ambiguous)

@@ -18,119 +18,107 @@ use Rattle.chart_line.proofs.Lines.{columns_to, columns_to_length, columns_more,
 use Rattle.chart_line.proofs.line.put_columns.Statement.{statement}
 use Rattle.chart_line.proofs.line.put_columns.Tie as tie
 
-abbrev invariant-loop : tie.invariant-loop
-invariant-loop bundle b scratch f classes k line₀ index at₀ i₀ t11 line at i =
+abbrev invariant-loop-i : tie.invariant-loop-i
+invariant-loop-i bundle b scratch f classes k line₀ index at₀ i₀ line at i =
     (i ≤ length classes) × (at ≡ 4 + 5 * i) × Begun line₀ (columns_to (take 4 line₀) (cell (model_of bundle) f k) classes i) line
 
-abbrev decreases-loop : tie.decreases-loop
-decreases-loop bundle b scratch f classes k line₀ index at₀ i₀ t11 line at i = length classes - i
+abbrev decreases-loop-i : tie.decreases-loop-i
+decreases-loop-i bundle b scratch f classes k line₀ index at₀ i₀ line at i = length classes - i
 
 -- where the call began, and the buffer, the places of a class and the text so far
-abbrev start : tie.At-loop invariant-loop decreases-loop → tie.Start invariant-loop decreases-loop
+abbrev start : tie.At-loop-i invariant-loop-i decreases-loop-i → tie.Start invariant-loop-i decreases-loop-i
 start l = l.before.before.before.before.before.before
 
-abbrev old : tie.At-loop invariant-loop decreases-loop → List ℕ
+abbrev old : tie.At-loop-i invariant-loop-i decreases-loop-i → List ℕ
 old l = (start l).args.line.now
 
-abbrev places : tie.At-loop invariant-loop decreases-loop → ℕ → List ℕ
+abbrev places : tie.At-loop-i invariant-loop-i decreases-loop-i → ℕ → List ℕ
 places l = let a = (start l).args in cell (model_of a.bundle.now) a.f a.k
 
-abbrev text : tie.At-loop invariant-loop decreases-loop → List ℕ
-text l = columns_to (take 4 (old l)) (places l) (start l).args.classes.now l.loop.i
+abbrev text : tie.At-loop-i invariant-loop-i decreases-loop-i → List ℕ
+text l = columns_to (take 4 (old l)) (places l) (start l).args.classes.now l.loop-i.i
 
 -- the buffer holds a line
-enough : (s : tie.Start invariant-loop decreases-loop) → 5 + 5 * length s.args.classes.now ≤ length s.args.line.now
+enough : (s : tie.Start invariant-loop-i decreases-loop-i) → 5 + 5 * length s.args.classes.now ≤ length s.args.line.now
 enough s = enough_room s.requires.1.0 s.requires.1.1
 
 -- and is not long
-few : (s : tie.Start invariant-loop decreases-loop) → length s.args.classes.now ≤ max_classes
+few : (s : tie.Start invariant-loop-i decreases-loop-i) → length s.args.classes.now ≤ max_classes
 few s = few_classes (wellformed_of s.requires.0.opened) s.requires.1.0
 
-each : (l : tie.At-loop invariant-loop decreases-loop) → (c : ℕ) → length (places l c) ≡ 4
+each : (l : tie.At-loop-i invariant-loop-i decreases-loop-i) → (c : ℕ) → length (places l c) ≡ 4
 each l = let a = (start l).args in cell_length (model_of a.bundle.now) a.f a.k
 
-four : (l : tie.At-loop invariant-loop decreases-loop) → length (take 4 (old l)) ≡ 4
+four : (l : tie.At-loop-i invariant-loop-i decreases-loop-i) → length (take 4 (old l)) ≡ 4
 four l = length-take-le 4 (old l) (omega (arith, enough (start l)))
 
-text-length : (l : tie.At-loop invariant-loop decreases-loop) → length (text l) ≡ 4 + 5 * l.loop.i
-text-length l = columns_to_length (take 4 (old l)) (places l) (four l) (each l) (start l).args.classes.now l.loop.i l.loop.invariant.0
+text_length : (l : tie.At-loop-i invariant-loop-i decreases-loop-i) → length (text l) ≡ 4 + 5 * l.loop-i.i
+text_length l = columns_to_length (take 4 (old l)) (places l) (four l) (each l) (start l).args.classes.now l.loop-i.i l.loop-i.invariant.0
 
-line_length_lem : (l : tie.At-loop invariant-loop decreases-loop) → length l.loop.line ≡ length (old l)
-line_length_lem l = begun_length (old l) (text l) l.loop.line l.loop.invariant.2 (omega (arith, text-length l, l.loop.invariant.0, enough (start l)))
+line_length_lem : (l : tie.At-loop-i invariant-loop-i decreases-loop-i) → length l.loop-i.line ≡ length (old l)
+line_length_lem l = begun_length (old l) (text l) l.loop-i.line l.loop-i.invariant.2 (omega (arith, text_length l, l.loop-i.invariant.0, enough (start l)))
 
-loop-holds : tie.Need-loop-init invariant-loop decreases-loop
-loop-holds c =
-    let s = c.before.before.before.before.before in
-    let a = s.args in
+loop-i-init : tie.Need-loop-i-init invariant-loop-i decreases-loop-i
+loop-i-init c =
+    let a = c.args in
     let line = a.line.now in
-    (omega arith, refl, columns_none line (cell (model_of a.bundle.now) a.f a.k) a.classes.now (length-take-le 4 line (omega (arith, enough s))))
+    (omega arith, refl, columns_none line (cell (model_of a.bundle.now) a.f a.k) a.classes.now (length-take-le 4 line (omega (arith, enough c.before.before.before.before.before))))
 
-put-requires : tie.Need-put-requires invariant-loop decreases-loop
+put-requires : tie.Need-put-requires invariant-loop-i decreases-loop-i
 put-requires c κs =
-    let l = c.before.before.before in
-    omega (arith, line_length_lem l, enough (start l), l.loop.invariant.1)
+    omega (arith, line_length_lem c.before.before.before.before, enough (start c.before.before.before.before), c.loop-i.invariant.1)
 
 -- the blank is written
-blank : (c : tie.After-put invariant-loop decreases-loop) → let l = c.before.before.before.before in Begun (old l) (text l ++ (32 ∷ [])) c.put.new.0
+blank : (c : tie.After-put invariant-loop-i decreases-loop-i) → let l = c.before.before.before.before in Begun (old c.before.before.before.before.before) (text c.before.before.before.before.before ++ (32 ∷ [])) c.put.new.line
 blank c =
-    let l = c.before.before.before.before in
-    begun_more (old l) (text l) (32 ∷ []) l.loop.line c.put.new.0 l.loop.at l.loop.invariant.2 (l.loop.invariant.1 ∙ sym (text-length l)) c.put.ensures
+    begun_more (old c.before.before.before.before.before) (text c.before.before.before.before.before) (32 ∷ []) c.loop-i.line c.put.new.line c.loop-i.at c.loop-i.invariant.2 (c.loop-i.invariant.1 ∙ sym (text_length c.before.before.before.before.before)) c.put.ensures
 
-cell-requires : tie.Need-cell-requires invariant-loop decreases-loop
+cell-requires : tie.Need-cell-requires invariant-loop-i decreases-loop-i
 cell-requires c κs =
-    let l = c.before.before.before.before.before.before.before.before in
-    let p = (start l).requires in
-    (p.0, (l.before.index-methods.ensures, (p.1.0, omega arith)))
+    let p = (start c.before.before.before.before.before.before.before.before.before).requires in
+    (p.0, (c.index_methods-index.ensures, (p.1.0, omega arith)))
 
-put-requires-2 : tie.Need-put-requires-2 invariant-loop decreases-loop
-put-requires-2 c κs =
-    let u = c.before.before.before.before.before.before in
-    let l = u.before.before.before.before in
-    let grown = begun_length (old l) (text l ++ (32 ∷ [])) u.put.new.0 (blank u) (omega (arith, length-append (text l) (32 ∷ []), text-length l, enough (start l))) in
-    omega (arith, ap (length {A = ℕ}) c.before.cell.ensures, each l (get_or (start l).args.classes.now l.loop.i 0), grown, enough (start l), l.loop.invariant.1)
+put-requires-in-loop-i : tie.Need-put-requires-in-loop-i invariant-loop-i decreases-loop-i
+put-requires-in-loop-i c κs =
+    let grown = begun_length (old c.before.before.before.before.before.before.before.before.before.before.before) (text c.before.before.before.before.before.before.before.before.before.before.before ++ (32 ∷ [])) c.put.new.line (blank c.before.before.before.before.before.before) (omega (arith, length-append (text c.before.before.before.before.before.before.before.before.before.before.before) (32 ∷ []), text_length c.before.before.before.before.before.before.before.before.before.before.before, enough (start c.before.before.before.before.before.before.before.before.before.before.before))) in
+    omega (arith, ap (length {A = ℕ}) c.cell.ensures, each c.before.before.before.before.before.before.before.before.before.before.before (get_or (start c.before.before.before.before.before.before.before.before.before.before.before).args.classes.now c.loop-i.i 0), grown, enough (start c.before.before.before.before.before.before.before.before.before.before.before), c.loop-i.invariant.1)
 
-loop-again : tie.Need-loop-preserved invariant-loop decreases-loop
-loop-again c =
-    let w = c.before.before in
-    let v = w.before.before in
-    let u = v.before.before.before.before.before in
-    let l = u.before.before.before.before in
-    let classes = (start l).args.classes.now in
+loop-i-preserved : tie.Need-loop-i-preserved invariant-loop-i decreases-loop-i
+loop-i-preserved c =
+    let classes = (start c.before.before.before.before.before.before.before.before.before.before.before.before.before.before).args.classes.now in
     let more =
-    begun_more (old l) (text l ++ (32 ∷ [])) v.cell.result u.put.new.0 w.put2.new.0 (l.loop.at + 1) (blank u)
-    (omega (arith, length-append (text l) (32 ∷ []), text-length l, l.loop.invariant.1)) w.put2.ensures in (
+    begun_more (old c.before.before.before.before.before.before.before.before.before.before.before.before.before.before) (text c.before.before.before.before.before.before.before.before.before.before.before.before.before.before ++ (32 ∷ [])) c.cell.result c.put.new.line c.put-in-loop-i.new.line (c.loop-i.at + 1) (blank c.before.before.before.before.before.before.before.before.before)
+    (omega (arith, length-append (text c.before.before.before.before.before.before.before.before.before.before.before.before.before.before) (32 ∷ []), text_length c.before.before.before.before.before.before.before.before.before.before.before.before.before.before, c.loop-i.invariant.1)) c.put-in-loop-i.ensures in (
       omega arith,
-      omega (arith, l.loop.invariant.1),
-      subst (λ (xs : List ℕ). Begun (old l) xs w.put2.new.0)
-          (ap (λ (xs : List ℕ). text l ++ (32 ∷ []) ++ xs) v.cell.ensures ∙ columns_more (take 4 (old l)) (places l) (four l) (each l) classes l.loop.i (omega arith)) more,
+      omega (arith, c.loop-i.invariant.1),
+      subst (λ (xs : List ℕ). Begun (old c.before.before.before.before.before.before.before.before.before.before.before.before.before.before) xs c.put-in-loop-i.new.line)
+          (ap (λ (xs : List ℕ). text c.before.before.before.before.before.before.before.before.before.before.before.before.before.before ++ (32 ∷ []) ++ xs) c.cell.ensures ∙ columns_more (take 4 (old c.before.before.before.before.before.before.before.before.before.before.before.before.before.before)) (places c.before.before.before.before.before.before.before.before.before.before.before.before.before.before) (four c.before.before.before.before.before.before.before.before.before.before.before.before.before.before) (each c.before.before.before.before.before.before.before.before.before.before.before.before.before.before) classes c.loop-i.i (omega arith)) more,
     )
 
-same_length : tie.Need-same-length invariant-loop decreases-loop
-same_length c = line_length_lem c.before
+shape_of-line : tie.Need-shape_of-line invariant-loop-i decreases-loop-i
+shape_of-line c = line_length_lem c.before
 
-returns : tie.Need-returns invariant-loop decreases-loop
+returns : tie.Need-returns invariant-loop-i decreases-loop-i
 returns c =
-    let l = c.before in
-    columns_all (old l) (places l) (start l).args.classes.now (four l) l.loop.i l.loop.line (omega (arith, l.loop.invariant.0)) l.loop.invariant.2
+    columns_all (old c.before) (places c.before) (start c.before).args.classes.now (four c.before) c.loop-i.i c.loop-i.line (omega (arith, c.loop-i.invariant.0)) c.loop-i.invariant.2
 
 pub put_columns_spec : {M : Type 1} → statement M
 put_columns_spec =
     tie.close
     (tie.spec
-    invariant-loop
-    decreases-loop
+    invariant-loop-i
+    decreases-loop-i
     (λ c κs. search rules)
-    loop-holds
-    (λ c. search rules)
+    loop-i-init
     put-requires
-    (λ c. let l = c.before.before.before.before.before.before.before in omega (arith, l.loop.invariant.1, enough (start l)))
+    (λ c. let l = c.before.before.before.before.before.before.before in omega (arith, l.loop-i.invariant.1, enough (start c.before.before.before.before.before.before.before.before)))
     (λ c. search rules)
     cell-requires
     (λ c. search rules)
-    put-requires-2
-    (λ c. let l = c.before.before.before.before.before.before.before.before.before.before.before.before.before in omega (arith, l.loop.invariant.0, l.loop.invariant.1, few (start l)))
+    put-requires-in-loop-i
+    (λ c. let l = c.before.before.before.before.before.before.before.before.before.before.before.before.before in omega (arith, l.loop-i.invariant.0, l.loop-i.invariant.1, few (start c.before.before.before.before.before.before.before.before.before.before.before.before.before.before)))
     (λ c. omega arith)
     (λ c. omega arith)
-    loop-again
-    same_length
+    loop-i-preserved
+    shape_of-line
     returns)

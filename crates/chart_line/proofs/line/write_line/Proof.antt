@@ -30,84 +30,72 @@ unfolding chart_line
 line_made M f k start classes e h = rw (e, h) refl
 
 -- the heading as it is written
-headed : (c : tie.After-heading) → let a = c.before.before.before.before.before.before.args in c.heading.result ≡ heading (model_of a.bundle.now) a.k
+headed : (c : tie.After-heading) → let a = c.args in c.heading.result ≡ heading (model_of a.bundle.now) a.k
 headed c =
-    let s = c.before.before.before.before.before.before in
-    c.heading.ensures (model_of s.args.bundle.now) s.requires.1.0.concrete
+    c.heading.ensures (model_of c.args.bundle.now) c.requires.1.0.concrete
 
 four : (c : tie.After-heading) → length c.heading.result ≡ 4
 four c =
-    let a = c.before.before.before.before.before.before.args in
+    let a = c.args in
     ap (length {A = ℕ}) (headed c) ∙ heading_length (model_of a.bundle.now) a.k
 
 put-requires : tie.Need-put-requires
 put-requires c κs = omega (arith, four c.before, enough c.before.before.before.before.before.before.before)
 
 -- the buffer with the heading
-first : (c : tie.After-put) → let h = c.before.before in let a = h.before.before.before.before.before.before.args in Begun a.line.now h.heading.result c.put.new.0
+first : (c : tie.After-put) → let a = c.args in Begun a.line.now c.heading.result c.put.new.line
 first c =
-    let h = c.before.before in
-    let line = h.before.before.before.before.before.before.args.line.now in
-    begun_more line [] h.heading.result line c.put.new.0 0 refl refl c.put.ensures
+    let line = c.args.line.now in
+    begun_more line [] c.heading.result line c.put.new.line 0 refl refl c.put.ensures
 
-first-length : (c : tie.After-put) → length c.put.new.0 ≡ length c.before.before.before.before.before.before.before.before.args.line.now
-first-length c =
-    let h = c.before.before in
-    let s = h.before.before.before.before.before.before in
-    begun_length s.args.line.now h.heading.result c.put.new.0 (first c) (omega (arith, four h, enough s))
+first_length : (c : tie.After-put) → length c.put.new.line ≡ length c.args.line.now
+first_length c =
+    begun_length c.args.line.now c.heading.result c.put.new.line (first c) (omega (arith, four c.before.before, enough c.before.before.before.before.before.before.before.before))
 
-put-columns-requires : tie.Need-put-columns-requires
-put-columns-requires c κs =
-    let u = c.before.before.before in
-    let p = u.before.before.before.before.before.before.before.before.requires in
-    (p.0, (p.1.0, omega (arith, first-length u, p.1.1)))
+put_columns-requires : tie.Need-put_columns-requires
+put_columns-requires c κs =
+    let p = c.requires in
+    (p.0, (p.1.0, omega (arith, first_length c.before.before.before, p.1.1)))
 
 -- the heading with the columns behind it, and the buffer with both
-abbrev both : tie.After-put-columns → List ℕ
+abbrev both : tie.After-put_columns → List ℕ
 both c =
-    let h = c.before.before.before.before.before.before in
-    let a = h.before.before.before.before.before.before.args in
-    h.heading.result ++ columns (cell (model_of a.bundle.now) a.f a.k) a.classes.now
+    let a = c.args in
+    c.heading.result ++ columns (cell (model_of a.bundle.now) a.f a.k) a.classes.now
 
-abbrev start : tie.After-put-columns → tie.Start
+abbrev start : tie.After-put_columns → tie.Start
 start c = c.before.before.before.before.before.before.before.before.before.before.before.before
 
-abbrev after : tie.After-put-columns → List ℕ
-after c = c.put-columns.new.1.1.1.1.1.1.0
+abbrev after : tie.After-put_columns → List ℕ
+after c = c.put_columns.new.line
 
-second : (c : tie.After-put-columns) → Begun (start c).args.line.now (both c) (after c)
+second : (c : tie.After-put_columns) → Begun (start c).args.line.now (both c) (after c)
 second c =
-    let u = c.before.before.before.before in
-    let h = u.before.before in
     let a = (start c).args in
-    begun_more a.line.now h.heading.result (columns (cell (model_of a.bundle.now) a.f a.k) a.classes.now) u.put.new.0 (after c) 4 (first u) (sym (four h)) c.put-columns.ensures
+    begun_more a.line.now c.heading.result (columns (cell (model_of a.bundle.now) a.f a.k) a.classes.now) c.put.new.line (after c) 4 (first c.before.before.before.before) (sym (four c.before.before.before.before.before.before)) c.put_columns.ensures
 
-both-length : (c : tie.After-put-columns) → length (both c) ≡ 4 + 5 * length (start c).args.classes.now
-both-length c =
-    let h = c.before.before.before.before.before.before in
+both_length : (c : tie.After-put_columns) → length (both c) ≡ 4 + 5 * length (start c).args.classes.now
+both_length c =
     let a = (start c).args in
     let M = model_of a.bundle.now in
-    length-append h.heading.result (columns (cell M a.f a.k) a.classes.now)
-    ∙ rw (four h, columns_length (cell M a.f a.k) (cell_length M a.f a.k) a.classes.now) refl
+    length-append c.heading.result (columns (cell M a.f a.k) a.classes.now)
+    ∙ rw (four c.before.before.before.before.before.before, columns_length (cell M a.f a.k) (cell_length M a.f a.k) a.classes.now) refl
 
-after-length : (c : tie.After-put-columns) → length (after c) ≡ length (start c).args.line.now
-after-length c = begun_length (start c).args.line.now (both c) (after c) (second c) (omega (arith, both-length c, enough (start c)))
+after_length : (c : tie.After-put_columns) → length (after c) ≡ length (start c).args.line.now
+after_length c = begun_length (start c).args.line.now (both c) (after c) (second c) (omega (arith, both_length c, enough (start c)))
 
 put-requires-2 : tie.Need-put-requires-2
 put-requires-2 c κs =
     let u = c.before.before.before.before in
-    omega (arith, after-length u, enough (start u))
+    omega (arith, after_length c.before.before.before.before.before, enough (start c.before.before.before.before.before))
 
 returns : tie.Need-returns
 returns c =
-    let w = c.before.before in
-    let u = w.before.before.before.before.before in
-    let h = u.before.before.before.before.before.before in
-    let s = start u in
+    let s = start c.before.before.before.before.before.before.before.before in
     let a = s.args in
     let M = model_of a.bundle.now in
-    let third = begun_more a.line.now (both u) (10 ∷ []) (after u) w.put2.new.0 (4 + 5 * length a.classes.now) (second u) (sym (both-length u)) w.put2.ensures in
-    subst (λ (xs : List ℕ). Begun a.line.now xs w.put2.new.0) (line_made M a.f a.k h.heading.result a.classes.now (headed h) s.pre.1.0.concrete) third
+    let third = begun_more a.line.now (both c.before.before.before.before.before.before.before.before) (10 ∷ []) (after c.before.before.before.before.before.before.before.before) c.put-2.new.line (4 + 5 * length a.classes.now) (second c.before.before.before.before.before.before.before.before) (sym (both_length c.before.before.before.before.before.before.before.before)) c.put-2.ensures in
+    subst (λ (xs : List ℕ). Begun a.line.now xs c.put-2.new.line) (line_made M a.f a.k c.heading.result a.classes.now (headed c.before.before.before.before.before.before.before.before.before.before.before.before.before.before) s.requires.1.0.concrete) third
 
 pub write_line_spec : {M : Type 1} → statement M
 write_line_spec =
@@ -116,10 +104,9 @@ write_line_spec =
     (λ c κs. search rules)
     (λ c. search rules)
     put-requires
-    put-columns-requires
+    put_columns-requires
     (λ c. omega (arith, few c.before.before.before.before.before.before.before.before.before.before.before.before.before.before.before))
     (λ c. omega (arith, few c.before.before.before.before.before.before.before.before.before.before.before.before.before.before.before))
-    (λ c. search rules)
     put-requires-2
     (λ c. search rules)
     returns)

@@ -25,25 +25,20 @@ arguments c =
     tuple_arguments _ (wellformed_of o) _ _ (omega (arith, p.1.0)) p.1.1.1
 
 judge-requires : tie.Need-judge-requires
-judge-requires c κs = let s = c.before.before.before in (s.requires.0, (s.requires.1.0, arguments s))
+judge-requires c κs = (c.requires.0, (c.requires.1.0, arguments c.before.before.before))
 
-returns : tie.Need-returns
-returns c =
-    let j = c.before.before in
-    tuple_some _ _ j.before.before.before.before.requires.1.1.1 (not_refused _ _ _ (sym (ap judgement_of c.enum_told.given.1) ∙ j.judge.ensures))
+returns-in-Holds : tie.Need-returns-in-Holds
+returns-in-Holds c =
+    tuple_some _ _ c.requires.1.1.1 (not_refused _ _ _ (sym (ap judgement_of c.in-Holds.is) ∙ c.judge.ensures))
 
 of-requires : tie.Need-of-requires
 of-requires c κs =
-    let s = c.before.before.before.before.before.before.before in
-    arguments_places s.requires.0.opened (arguments s)
+    arguments_places c.requires.0.opened (arguments c.before.before.before.before.before)
 
-returns-2 : tie.Need-returns-2
-returns-2 c =
-    let f = c.before.before in
-    let j = f.before.before in
-    let s = j.before.before.before.before in
-    let p = s.requires.1.1 in
-    tuple_some _ _ p.1 (is_refused _ _ _ (c.of.ensures ∙ ap (λ (f : ℕ). f ∷ padded s.args.args.now) p.0) (sym (ap judgement_of f.failure.given.1) ∙ j.judge.ensures))
+returns-in-Fails : tie.Need-returns-in-Fails
+returns-in-Fails c =
+    let p = c.requires.1.1 in
+    tuple_some _ _ p.1 (is_refused _ _ _ (c.of.ensures ∙ ap (λ (f : ℕ). f ∷ padded c.args.args.now) p.0) (sym (ap judgement_of c.in-Fails.is) ∙ c.judge.ensures))
 
 pub broken_by_spec : {M : Type 1} → statement M
-broken_by_spec = tie.close (tie.spec judge-requires (λ c. search rules) (λ c. search rules) of-requires returns returns-2)
+broken_by_spec = tie.close (tie.spec judge-requires (λ c. search rules) (λ c. search rules) of-requires returns-in-Holds returns-in-Fails)

@@ -15,45 +15,39 @@ use Rattle.coverage.proofs.Signatures.{signature_holds, signature_implied, signa
 use Rattle.coverage.proofs.signature.broken_signature.Statement.{statement}
 use Rattle.coverage.proofs.signature.broken_signature.Tie as tie
 
-abbrev invariant-loop : tie.invariant-loop
-invariant-loop bytes b scratch order admits holds signatures s₀ s = (s ≤ b.signatures) × ((i : ℕ) → i < s → is_some (broken_tuple (model_of bytes) i) ≡ false)
+abbrev invariant-loop-s : tie.invariant-loop-s
+invariant-loop-s bytes b scratch order admits holds signatures s₀ s = (s ≤ b.signatures) × ((i : ℕ) → i < s → is_some (broken_tuple (model_of bytes) i) ≡ false)
 
-abbrev decreases-loop : tie.decreases-loop
-decreases-loop bytes b scratch order admits holds signatures s₀ s = b.signatures - s
+abbrev decreases-loop-s : tie.decreases-loop-s
+decreases-loop-s bytes b scratch order admits holds signatures s₀ s = b.signatures - s
 
-loop-again : tie.Need-loop-preserved invariant-loop decreases-loop
-loop-again c =
-    let l = c.before.before.before in
-    (omega arith, below_more _ _ l.loop.invariant.1 (signature_implied _ (wellformed_of l.before.before.before.before.before.before.before.before.before.before.requires.opened) l.loop.s l.loop.invariant.1 (sym c.before.implied.ensures ∙ c.if1.true)))
+loop-s-preserved-then-implied : tie.Need-loop-s-preserved-then-implied invariant-loop-s decreases-loop-s
+loop-s-preserved-then-implied c =
+    (omega arith, below_more _ _ c.loop-s.invariant.1 (signature_implied _ (wellformed_of c.requires.opened) c.loop-s.s c.loop-s.invariant.1 (sym c.implied.ensures ∙ c.if-implied.true)))
 
-loop-again-2 : tie.Need-loop-preserved-2 invariant-loop decreases-loop
-loop-again-2 c =
-    let u = c.before.before in
-    let l = u.before.before.before.before.before.before.before.loop in
-    (omega arith, below_more _ _ l.invariant.1 (signature_holds _ l.s (sym (ap verdict_said c.enum_told.given.1) ∙ u.broken-tuple.ensures)))
+loop-s-preserved : tie.Need-loop-s-preserved invariant-loop-s decreases-loop-s
+loop-s-preserved c =
+    let l = c.loop-s in
+    (omega arith, below_more _ _ l.invariant.1 (signature_holds _ l.s (sym (ap verdict_said c.in-Accepted.is) ∙ c.broken_tuple.ensures)))
 
-returns : tie.Need-returns invariant-loop decreases-loop
+returns-in-Refused : tie.Need-returns-in-Refused invariant-loop-s decreases-loop-s
+returns-in-Refused c =
+    let counts = counts_of c.requires.opened in
+    signature_breaks _ c.loop-s.s _ _ (omega arith) c.loop-s.invariant.1 (sym (ap verdict_said c.in-Refused.is) ∙ c.broken_tuple.ensures)
+
+returns : tie.Need-returns invariant-loop-s decreases-loop-s
 returns c =
-    let u = c.before.before.before in
-    let l = u.before.before.before.before.before.before.before in
-    let counts = counts_of l.before.before.before.before.before.before.before.before.before.before.requires.opened in
-    signature_breaks _ l.loop.s _ _ (omega arith) l.loop.invariant.1 (sym (ap verdict_said c.before.found.given.1) ∙ u.broken-tuple.ensures)
-
-returns-2 : tie.Need-returns-2 invariant-loop decreases-loop
-returns-2 c =
-    let l = c.before in
-    let counts = counts_of l.before.before.before.before.before.before.before.before.before.before.requires.opened in
-    signatures_hold _ (λ i h. l.loop.invariant.1 i (omega arith))
+    let counts = counts_of c.requires.opened in
+    signatures_hold _ (λ i h. c.loop-s.invariant.1 i (omega arith))
 
 -- the order and both tables are made before the loop
-broken-tuple-requires : tie.Need-broken-tuple-requires invariant-loop decreases-loop
-broken-tuple-requires c κs =
-    let l = c.before.before.before.before.before.before in
-    let o = l.before.before.before.before.before.before.before.order-methods in (
-      l.before.before.before.before.before.before.before.before.before.before.requires,
+broken_tuple-requires : tie.Need-broken_tuple-requires invariant-loop-s decreases-loop-s
+broken_tuple-requires c κs =
+    let o = c.order_methods-order in (
+      c.requires,
       (
-        omega (arith, l.loop.invariant.0),
-        record { ordered = o.ensures; admitting = l.before.before.before.before.fill-table.ensures; holding = l.before.fill-table2.ensures },
+        omega (arith, c.loop-s.invariant.0),
+        record { ordered = o.ensures; admitting = c.fill_table.ensures; holding = c.fill_table-2.ensures },
       ),
     )
 
@@ -61,20 +55,20 @@ pub broken_signature_spec : {M : Type 1} → statement M
 broken_signature_spec =
     tie.close
     (tie.spec
-    invariant-loop
-    decreases-loop
+    invariant-loop-s
+    decreases-loop-s
     (λ c κs. search rules)
-    (λ c κs. (c.before.before.before.before.before.requires, (c.before.before.order-methods.ensures, tabled_none _ _ _)))
-    (λ c κs. (c.before.before.before.before.before.before.before.before.requires, (c.before.before.before.before.before.order-methods.ensures, tabled_none _ _ _)))
+    (λ c κs. (c.requires, (c.order_methods-order.ensures, tabled_none _ _ _)))
+    (λ c κs. (c.requires, (c.order_methods-order.ensures, tabled_none _ _ _)))
     (λ c. (omega arith, below_none _))
     (λ c. omega arith)
-    (λ c κs. (c.before.before.before.before.before.before.before.before.before.before.before.requires, omega arith))
+    (λ c κs. (c.requires, omega arith))
     (λ c. omega arith)
-    loop-again
-    broken-tuple-requires
+    loop-s-preserved-then-implied
+    broken_tuple-requires
     (λ c. search rules)
     (λ c. omega arith)
-    loop-again-2
+    loop-s-preserved
     (λ c. search rules)
-    returns
-    returns-2)
+    returns-in-Refused
+    returns)

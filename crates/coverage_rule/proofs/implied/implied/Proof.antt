@@ -12,40 +12,39 @@ use Rattle.coverage_rule.specs.Implied.{implied}
 use Rattle.coverage_rule.proofs.implied.implied.Statement.{statement}
 use Rattle.coverage_rule.proofs.implied.implied.Tie as tie
 
-abbrev invariant-loop : tie.invariant-loop
-invariant-loop bytes b scratch s e₀ e = (e ≤ s) × ((i : ℕ) → i < e → implies (model_of bytes) i s ≡ false)
+abbrev invariant-loop-e : tie.invariant-loop-e
+invariant-loop-e bytes b scratch s e₀ e = (e ≤ s) × ((i : ℕ) → i < e → implies (model_of bytes) i s ≡ false)
 
-abbrev decreases-loop : tie.decreases-loop
-decreases-loop bytes b scratch s e₀ e = s - e
+abbrev decreases-loop-e : tie.decreases-loop-e
+decreases-loop-e bytes b scratch s e₀ e = s - e
 
-implies-requires : tie.Need-implies-requires invariant-loop decreases-loop
-implies-requires c κs = let p = c.before.before.before.before.requires in (p.0, (omega arith, p.1))
+implies-requires : tie.Need-implies-requires invariant-loop-e decreases-loop-e
+implies-requires c κs = let p = c.requires in (p.0, (omega arith, p.1))
 
-returns : tie.Need-returns invariant-loop decreases-loop
+returns-then-implies : tie.Need-returns-then-implies invariant-loop-e decreases-loop-e
 unfolding implied
-returns c =
-    let s = c.before.before in
-    sym (any_from _ _ (below_upto _ s.before.loop.e (omega arith)) (sym c.before.implies.ensures ∙ c.if1.true))
+returns-then-implies c =
+    sym (any_from _ _ (below_upto _ c.loop-e.e (omega arith)) (sym c.implies.ensures ∙ c.if-implies.true))
 
-loop-again : tie.Need-loop-preserved invariant-loop decreases-loop
-loop-again c =
-    let l = c.before.before.before.loop in
-    (omega arith, below_more _ _ l.invariant.1 (sym c.before.implies.ensures ∙ c.if1.false))
+loop-e-preserved : tie.Need-loop-e-preserved invariant-loop-e decreases-loop-e
+loop-e-preserved c =
+    let l = c.loop-e in
+    (omega arith, below_more _ _ l.invariant.1 (sym c.implies.ensures ∙ c.if-implies.false))
 
-returns-2 : tie.Need-returns-2 invariant-loop decreases-loop
+returns : tie.Need-returns invariant-loop-e decreases-loop-e
 unfolding implied
-returns-2 c = sym (any_none _ _ (λ i m. c.before.loop.invariant.1 i (omega (arith, upto_below _ m))))
+returns c = sym (any_none _ _ (λ i m. c.loop-e.invariant.1 i (omega (arith, upto_below _ m))))
 
 pub implied_spec : {M : Type 1} → statement M
 implied_spec =
     tie.close
     (tie.spec
-    invariant-loop
-    decreases-loop
+    invariant-loop-e
+    decreases-loop-e
     (λ c. (omega arith, below_none _))
     implies-requires
-    returns
+    returns-then-implies
     (λ c. omega arith)
     (λ c. omega arith)
-    loop-again
-    returns-2)
+    loop-e-preserved
+    returns)

@@ -3,7 +3,7 @@
 use Prim.Native.Nat.{ℕ, ◌<◌}
 use native.Mathlib.Omega.{arith}
 use mathlib.Core.Path.{◌≡◌, sym, ap, ◌∙◌}
-use mathlib.Core.Bool.{true, false}
+use mathlib.Core.Bool.{true, false, not}
 use borrow.Author.Rules.{rules}
 use borrow.Author.Tests.{not-true, not-false, eq-eqb, ne_eqb}
 use lib.ListN.{length}
@@ -30,21 +30,20 @@ module _ (M : Model) (e s : ℕ) where
   by_result q u = rw (eq-eqb (M.sig_function e) (M.sig_function s) q, u)
 
 -- the signatures are of one function
-one_function : (c : tie.Else1)
-    → let a = c.before.before.before.before.before.args in
+one_function : (c : tie.Else-sig_function-f)
+    → let a = c.args in
     (model_of a.bytes.now).sig_function a.e ≡ (model_of a.bytes.now).sig_function a.s
-one_function c = sym c.before.sig-function2.ensures.0 ∙ c.if1.false ∙ c.before.before.sig_function_lem.ensures.0
+one_function c = sym c.sig_function.ensures.0 ∙ c.if-sig_function-f.false ∙ c.sig_function-f.ensures.0
 
 -- both are of the bundle, and their classes too
-classes : (c : tie.Else1)
-    → let a = c.before.before.before.before.before.args in
+classes : (c : tie.Else-sig_function-f)
+    → let a = c.args in
     let M = model_of a.bytes.now in
     (present M (M.sig_args a.s) ≡ true) × (present M (M.sig_args a.e) ≡ true) × (length (M.sig_args a.s) ≡ length (M.sig_args a.e))
 classes c =
-    let start = c.before.before.before.before.before in
-    let a = start.args in
+    let a = c.args in
     let M = model_of a.bytes.now in
-    let o = start.requires.0.opened in
+    let o = c.requires.0.opened in
     let w = wellformed_of o in
     let counts = counts_of o in
     let below : a.s < M.signatures = omega arith in
@@ -52,64 +51,61 @@ classes c =
     (w.sig_present a.s below, w.sig_present a.e earlier, w.sig_places a.s below ∙ ap M.arity (sym (one_function c)) ∙ sym (w.sig_places a.e earlier))
 
 -- n is the arity of the function
-signature-classes-requires : tie.Need-signature-classes-requires
-signature-classes-requires c κs =
-    let start = c.before.before.before.before.before.before in
-    let a = start.args in
+signature_classes-own-requires : tie.Need-signature_classes-own-requires
+signature_classes-own-requires c κs =
+    let a = c.args in
     let M = model_of a.bytes.now in
-    (start.requires.0.opened, (start.requires.1.1, c.arity.ensures.0 ∙ ap M.arity c.before.before.before.sig_function_lem.ensures.0))
+    (c.requires.0.opened, (c.requires.1.1, c.arity-n.ensures.0 ∙ ap M.arity c.sig_function-f.ensures.0))
 
-signature-classes-requires-2 : tie.Need-signature-classes-requires-2
-signature-classes-requires-2 c κs =
+signature_classes-above-requires : tie.Need-signature_classes-above-requires
+signature_classes-above-requires c κs =
     let s = c.before in
-    let start = s.before.before.before.before.before.before in
-    let M = model_of start.args.bytes.now in (
-      start.requires.0.opened,
-      (start.requires.1.0, s.arity.ensures.0 ∙ ap M.arity (s.before.before.before.sig_function_lem.ensures.0 ∙ sym (one_function s.before))),
+    let M = model_of s.args.bytes.now in (
+      s.requires.0.opened,
+      (s.requires.1.0, s.arity-n.ensures.0 ∙ ap M.arity (s.sig_function-f.ensures.0 ∙ sym (one_function s.before))),
     )
 
-each-under-requires : tie.Need-each-under-requires
-each-under-requires c κs =
+each_under-requires : tie.Need-each_under-requires
+each_under-requires c κs =
     let s = c.before.before.before in
-    let start = s.before.before.before.before.before in
     let k = classes s in
-    comparable start.requires.0 k.0 k.1 c.before.signature-classes.ensures.1 c.signature-classes2.ensures.1 k.2
+    comparable s.requires.0 k.0 k.1 c.signature_classes-own.ensures.1 c.signature_classes-above.ensures.1 k.2
 
 -- whether the earlier signature covers what the later one covers
-met : (c : tie.After-each-under)
-    → let a = c.before.before.before.before.before.before.before.before.before.args in
+met : (c : tie.After-each_under)
+    → let a = c.args in
     let M = model_of a.bytes.now in
-    c.each-under.result ≡ under M (M.sig_args a.s) (M.sig_args a.e)
+    c.each_under.result ≡ under M (M.sig_args a.s) (M.sig_args a.e)
 met c =
     let s = c.before in
     let e = s.before.before.before in
     let k = classes e in
-    compared e.before.before.before.before.before.requires.0 k.0 k.1 s.before.signature-classes.ensures.1 s.signature-classes2.ensures.1 c.each-under.ensures
+    compared e.requires.0 k.0 k.1 s.signature_classes-own.ensures.1 s.signature_classes-above.ensures.1 c.each_under.ensures
 
-returns : tie.Need-returns
-returns c =
-    by_function _ _ _ (λ q. c.if1.true (c.before.sig-function2.ensures.0 ∙ q ∙ sym c.before.before.sig_function_lem.ensures.0))
+returns-then-sig_function-f : tie.Need-returns-then-sig_function-f
+returns-then-sig_function-f c =
+    by_function _ _ _ (λ q. c.if-sig_function-f.true (c.sig_function.ensures.0 ∙ q ∙ sym c.sig_function-f.ensures.0))
 
-returns-2 : tie.Need-returns-2
-returns-2 c =
+returns-then-not-each_under : tie.Need-returns-then-not-each_under
+returns-then-not-each_under c =
     let u = c.before in
-    by_arguments _ _ _ (one_function u.before.before.before.before) (sym (met u) ∙ not-true _ c.if2.true)
+    by_arguments _ _ _ (one_function u.before.before.before.before) (sym (met u) ∙ not-true _ (ap not c.if-not-each_under.true))
 
 under-requires : tie.Need-under-requires
 under-requires c κs =
-    let p = c.before.before.before.before.before.before.before.before.before.before.before.before.requires in
-    asked p.0 _ _ c.before.sig_result_lem.ensures.1 c.sig-result2.ensures.1
+    let p = c.requires in
+    asked p.0 _ _ c.sig_result-lower.ensures.1 c.sig_result-upper.ensures.1
 
-returns-3 : tie.Need-returns-3
-returns-3 c =
+returns : tie.Need-returns
+returns c =
     let t = c.before in
     let v = t.before.before in
     let u = v.before in
     let e = u.before.before.before.before in
-    let lower = t.before.sig_result_lem.ensures in
-    let upper = t.sig-result2.ensures in
-    answered e.before.before.before.before.before.requires.0 c.under.ensures lower.1 upper.1 lower.0 upper.0
-    ∙ by_result _ _ _ (one_function e) (sym (met u) ∙ not-false _ v.if2.false)
+    let lower = t.sig_result-lower.ensures in
+    let upper = t.sig_result-upper.ensures in
+    answered e.requires.0 c.under.ensures lower.1 upper.1 lower.0 upper.0
+    ∙ by_result _ _ _ (one_function e) (sym (met u) ∙ not-false _ (ap not v.if-not-each_under.false))
 
 pub implies_spec : {M : Type 1} → statement M
 implies_spec =
@@ -117,13 +113,13 @@ implies_spec =
     (tie.spec
     (λ c κs. search rules)
     (λ c κs. search rules)
-    returns
+    returns-then-sig_function-f
     (λ c κs. search rules)
-    signature-classes-requires
-    signature-classes-requires-2
-    each-under-requires
-    returns-2
+    signature_classes-own-requires
+    signature_classes-above-requires
+    each_under-requires
+    returns-then-not-each_under
     (λ c κs. search rules)
     (λ c κs. search rules)
     under-requires
-    returns-3)
+    returns)

@@ -5,13 +5,13 @@ use Rattle.rules.specs.Coverage.{failing}
 use Rattle.coverage_rule.proofs.judge.fails.Statement.{statement}
 use Rattle.coverage_rule.proofs.judge.fails.Tie as tie
 
-returns : tie.Need-returns
+returns-in-Holds : tie.Need-returns-in-Holds
 unfolding failing
-returns c = rw c.enum_told.given.1
+returns-in-Holds c = rw c.in-Holds.is
 
-returns-2 : tie.Need-returns-2
+returns-in-Fails : tie.Need-returns-in-Fails
 unfolding failing
-returns-2 c = rw c.enum-told2.given.1
+returns-in-Fails c = rw c.in-Fails.is
 
 pub fails_spec : {M : Type 1} → statement M
-fails_spec = tie.close (tie.spec (λ c. search rules) (λ c. search rules) returns returns-2)
+fails_spec = tie.close (tie.spec (λ c. search rules) (λ c. search rules) returns-in-Holds returns-in-Fails)

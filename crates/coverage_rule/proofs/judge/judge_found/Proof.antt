@@ -9,23 +9,21 @@ use Rattle.coverage_rule.proofs.Judging.{judge_by, judge_not_found}
 use Rattle.coverage_rule.proofs.judge.judge_found.Statement.{statement}
 use Rattle.coverage_rule.proofs.judge.judge_found.Tie as tie
 
-judge-method-requires : tie.Need-judge-method-requires
-judge-method-requires c κs =
-    let s = c.before.before.before.before.before.before in
-    let p = s.requires in
+judge_method-requires : tie.Need-judge_method-requires
+judge_method-requires c κs =
+    let p = c.requires in
     let rest = p.1.1 in
-    let m = (lookup_leader _ _ _ _ (sym rest.1 ∙ ap found_of c.before.found2.given.1)).candidate in
-    (p.0, (p.1.0, (rest.0.classes, record { bound = m.bound; arity = rest.0.arity ∙ ap (model_of s.args.bytes.now).arity (sym m.of_function) })))
+    let m = (lookup_leader _ _ _ _ (sym rest.1 ∙ ap found_of c.in-Method.is)).candidate in
+    (p.0, (p.1.0, (rest.0.classes, record { bound = m.bound; arity = rest.0.arity ∙ ap (model_of c.args.bytes.now).arity (sym m.of_function) })))
 
-returns : tie.Need-returns
-returns c =
-    let failed = c.before.found.given in
-    judge_by _ _ _ c.before.before.before.before.before.before.requires.1.1.1 (rw failed.1 (judge_not_found _ _ _ failed.0.0))
+returns-in-Fails : tie.Need-returns-in-Fails
+returns-in-Fails c =
+    judge_by _ _ _ c.requires.1.1.1 (rw c.in-Fails.is (judge_not_found _ _ _ c.in-Fails.failed))
 
-returns-2 : tie.Need-returns-2
-returns-2 c =
-    judge_by _ _ _ c.before.before.before.before.before.before.before.requires.1.1.1
-    (rw c.before.before.found2.given.1 c.judge-method.ensures)
+returns-in-Method : tie.Need-returns-in-Method
+returns-in-Method c =
+    judge_by _ _ _ c.requires.1.1.1
+    (rw c.in-Method.is c.judge_method.ensures)
 
 pub judge_found_spec : {M : Type 1} → statement M
-judge_found_spec = tie.close (tie.spec (λ c. search rules) (λ c. search rules) judge-method-requires returns returns-2)
+judge_found_spec = tie.close (tie.spec (λ c. search rules) (λ c. search rules) judge_method-requires returns-in-Fails returns-in-Method)

@@ -8,22 +8,22 @@ use Rattle.preparation.proofs.Called.{refused_early, ready}
 use Rattle.curiumtoad.proofs.check.check.Statement.{statement}
 use Rattle.curiumtoad.proofs.check.check.Tie as tie
 
-check-in-requires : tie.Need-check-in-requires
-check-in-requires c κs = let k = c.before.before in k.before.before.before.before.begin.ensures.prepared _ k.b.given.1
+check_in-requires : tie.Need-check_in-requires
+check_in-requires c κs = c.begin.ensures.prepared _ c.in-Ready.is
 
-returns : tie.Need-returns
+returns-in-Ready : tie.Need-returns-in-Ready
 unfolding check_call
-returns c = let k = c.before.before.before in ready k.before.before.before.before.begin.ensures k.b.given.1 _ c.check-in.ensures
+returns-in-Ready c = ready c.begin.ensures c.in-Ready.is _ c.check_in.ensures
 
-returns-2 : tie.Need-returns-2
+returns-in-Unopened : tie.Need-returns-in-Unopened
 unfolding check_call
-returns-2 c = let k = c.before in refused_early k.before.before.before.before.begin.ensures (ap beginning_said k.found.given.1) _
+returns-in-Unopened c = refused_early c.begin.ensures (ap beginning_said c.in-Unopened.is) _
 
-returns-3 : tie.Need-returns-3
+returns-in-ShortScratch : tie.Need-returns-in-ShortScratch
 unfolding check_call
-returns-3 c = refused_early c.before.before.before.before.begin.ensures (ap beginning_said c.enum_told.given.1) _
+returns-in-ShortScratch c = refused_early c.begin.ensures (ap beginning_said c.in-ShortScratch.is) _
 
 pub check_spec : {M : Type 1} → statement M
 check_spec =
     tie.close
-    (tie.spec (λ c κs. search rules) (λ c. search rules) check-in-requires (λ c. search rules) (λ c. search rules) (λ c. search rules) returns (λ c. search rules) returns-2 (λ c. search rules) returns-3)
+    (tie.spec (λ c κs. search rules) (λ c. search rules) check_in-requires (λ c. search rules) (λ c. search rules) (λ c. search rules) returns-in-Ready (λ c. search rules) returns-in-Unopened (λ c. search rules) returns-in-ShortScratch)

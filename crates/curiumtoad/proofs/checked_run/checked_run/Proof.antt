@@ -13,37 +13,35 @@ use Rattle.curiumtoad.proofs.Judging.{judged_alike}
 use Rattle.curiumtoad.proofs.checked_run.checked_run.Statement.{statement}
 use Rattle.curiumtoad.proofs.checked_run.checked_run.Tie as tie
 
-check-in-requires : tie.Need-check-in-requires
-check-in-requires c κs = let k = c.before.before in k.before.before.before.before.begin.ensures.prepared _ k.b.given.1
+check_in-verdict-requires : tie.Need-check_in-verdict-requires
+check_in-verdict-requires c κs = c.begin.ensures.prepared _ c.in-Ready.is
 
-run-in-requires : tie.Need-run-in-requires
-run-in-requires c κs = let k = c.before.before.before.before in k.before.before.before.before.begin.ensures.prepared _ k.b.given.1
+run_in-outcome-requires : tie.Need-run_in-outcome-requires
+run_in-outcome-requires c κs = c.begin.ensures.prepared _ c.in-Ready.is
 
-returns : tie.Need-returns
+returns-in-Ready : tie.Need-returns-in-Ready
 unfolding check_call run_call
-returns c =
-    let k = c.before.before.before.before.before in
-    let h = k.before.before.before.before.begin.ensures in
-    let checked = ready h k.b.given.1 _ c.before.before.check-in.ensures in
-    let ran = ready h k.b.given.1 _ c.run_in.ensures in
-    (checked.0, (ran.0, (judged_alike _ _ _ _ _ c.before.before.check-in.result c.run_in.result checked.0 ran.0, checked.1)))
+returns-in-Ready c =
+    let h = c.begin.ensures in
+    let checked = ready h c.in-Ready.is _ c.check_in-verdict.ensures in
+    let ran = ready h c.in-Ready.is _ c.run_in-outcome.ensures in
+    (checked.0, (ran.0, (judged_alike _ _ _ _ _ c.check_in-verdict.result c.run_in-outcome.result checked.0 ran.0, checked.1)))
 
-returns-2 : tie.Need-returns-2
+returns-in-Unopened : tie.Need-returns-in-Unopened
 unfolding check_call run_call
-returns-2 c =
-    let k = c.before in
-    let h = k.before.before.before.before.begin.ensures in
-    let f = k.found.given.0.0 in
-    let e = ap beginning_said k.found.given.1 in
+returns-in-Unopened c =
+    let h = c.begin.ensures in
+    let f = c.in-Unopened.found in
+    let e = ap beginning_said c.in-Unopened.is in
     let checked = refused_early h e _ in
     let ran = refused_early h e _ in
     (checked.0, (ran.0, (judged_alike _ _ _ _ _ (verdict.Refused (finding.Layout f)) (run.Refused (refusal.Layout f)) checked.0 ran.0, checked.1)))
 
-returns-3 : tie.Need-returns-3
+returns-in-ShortScratch : tie.Need-returns-in-ShortScratch
 unfolding check_call run_call
-returns-3 c =
-    let h = c.before.before.before.before.begin.ensures in
-    let e = ap beginning_said c.enum_told.given.1 in
+returns-in-ShortScratch c =
+    let h = c.begin.ensures in
+    let e = ap beginning_said c.in-ShortScratch.is in
     let checked = refused_early h e _ in
     let ran = refused_early h e _ in
     (checked.0, (ran.0, (judged_alike _ _ _ _ _ (verdict.Refused finding.Scratch) (run.Refused refusal.Scratch) checked.0 ran.0, checked.1)))
@@ -51,4 +49,4 @@ returns-3 c =
 pub checked_run_spec : {M : Type 1} → statement M
 checked_run_spec =
     tie.close
-    (tie.spec (λ c κs. search rules) (λ c. search rules) check-in-requires run-in-requires (λ c. search rules) (λ c. search rules) (λ c. search rules) returns (λ c. search rules) returns-2 (λ c. search rules) returns-3)
+    (tie.spec (λ c κs. search rules) (λ c. search rules) check_in-verdict-requires run_in-outcome-requires (λ c. search rules) (λ c. search rules) (λ c. search rules) returns-in-Ready (λ c. search rules) returns-in-Unopened (λ c. search rules) returns-in-ShortScratch)

@@ -12,38 +12,29 @@ use Rattle.curiumtoad.proofs.Reading.{instruction_refused, instruction_absent, i
 use Rattle.curiumtoad.proofs.instruction.nth_instruction.Statement.{statement}
 use Rattle.curiumtoad.proofs.instruction.nth_instruction.Tie as tie
 
+returns-in_default : tie.Need-returns-in_default
+returns-in_default c =
+    sym
+    (instruction_refused c.args.bundle.now c.args.method c.args.n c.finding.result
+    (rw c.finding.ensures at c.open-opening.ensures))
+
+returns-then-b-method : tie.Need-returns-then-b-method
+returns-then-b-method c =
+    sym
+    (instruction_absent c.args.bundle.now c.args.method c.args.n
+    (rw c.in-Opened.is at c.open-opening.ensures) (search rules))
+
+code_of-requires : tie.Need-code_of-requires
+code_of-requires c κs =
+    (opened_of (rw c.in-Opened.is at c.open-opening.ensures), search rules)
+
 returns : tie.Need-returns
 returns c =
-    let o = c.before.before.before in
-    let g = o.before.before in
-    sym
-    (instruction_refused g.args.bundle.now g.args.method g.args.n c.finding.result
-    (rw c.finding.ensures at o.«open».ensures))
-
-returns-2 : tie.Need-returns-2
-returns-2 c =
-    let k = c.before.before.before in
-    let o = k.before.before in
-    let g = o.before.before in
-    sym
-    (instruction_absent g.args.bundle.now g.args.method g.args.n
-    (rw k.opening.given.1 at o.«open».ensures) (search rules))
-
-code-of-requires : tie.Need-code-of-requires
-code-of-requires c κs =
-    let k = c.before.before.before in
-    (opened_of (rw k.opening.given.1 at k.before.before.«open».ensures), search rules)
-
-returns-3 : tie.Need-returns-3
-returns-3 c =
-    let k = c.before.before.before.before.before in
-    let o = k.before.before in
-    let g = o.before.before in
-    let code = c.before.code_of_lem.ensures.1 in
-    ap gives (c.nth-reading.ensures ∙ ap (λ (x : List ℕ). reading_at x g.args.n) code)
+    let code = c.code_of.ensures.1 in
+    ap gives (c.nth_reading.ensures ∙ ap (λ (x : List ℕ). reading_at x c.args.n) code)
     ∙ sym
-    (instruction_given g.args.bundle.now g.args.method g.args.n
-    (rw k.opening.given.1 at o.«open».ensures) (search rules))
+    (instruction_given c.args.bundle.now c.args.method c.args.n
+    (rw c.in-Opened.is at c.open-opening.ensures) (search rules))
 
 pub nth_instruction_spec : {M : Type 1} → statement M
 nth_instruction_spec =
@@ -52,9 +43,9 @@ nth_instruction_spec =
     (λ c κs. search rules)
     (λ c. search rules)
     (λ c. search rules)
-    (λ c κs. rw c.enum_told.given.1 tt)
-    returns
-    returns-2
-    code-of-requires
+    (λ c κs. rw c.in_default.is tt)
+    returns-in_default
+    returns-then-b-method
+    code_of-requires
     (λ c κs. search rules)
-    returns-3)
+    returns)

@@ -7,7 +7,7 @@ use Rattle.curiumtoad.proofs.opening.open.Tie as tie
 
 returns : tie.Need-returns
 unfolding opening_call
-returns c = (c.«open».ensures.answer, c.«open».ensures)
+returns c = (c.open.ensures.answer, c.open.ensures)
 
 pub open_spec : {M : Type 1} → statement M
 open_spec = tie.close (tie.spec (λ c κs. search rules) returns)

@@ -8,22 +8,22 @@ use Rattle.preparation.proofs.Called.{refused_early, ready}
 use Rattle.curiumtoad.proofs.rough.rough.Statement.{statement}
 use Rattle.curiumtoad.proofs.rough.rough.Tie as tie
 
-rough-in-requires : tie.Need-rough-in-requires
-rough-in-requires c κs = let k = c.before.before in k.before.before.before.before.begin.ensures.prepared _ k.b.given.1
+rough_in-requires : tie.Need-rough_in-requires
+rough_in-requires c κs = c.begin.ensures.prepared _ c.in-Ready.is
 
-returns : tie.Need-returns
+returns-in-Ready : tie.Need-returns-in-Ready
 unfolding rough_call
-returns c = let k = c.before.before.before in ready k.before.before.before.before.begin.ensures k.b.given.1 _ c.rough-in.ensures
+returns-in-Ready c = ready c.begin.ensures c.in-Ready.is _ c.rough_in.ensures
 
-returns-2 : tie.Need-returns-2
+returns-in-Unopened : tie.Need-returns-in-Unopened
 unfolding rough_call
-returns-2 c = let k = c.before in refused_early k.before.before.before.before.begin.ensures (ap beginning_said k.found.given.1) _
+returns-in-Unopened c = refused_early c.begin.ensures (ap beginning_said c.in-Unopened.is) _
 
-returns-3 : tie.Need-returns-3
+returns-in-ShortScratch : tie.Need-returns-in-ShortScratch
 unfolding rough_call
-returns-3 c = refused_early c.before.before.before.before.begin.ensures (ap beginning_said c.enum_told.given.1) _
+returns-in-ShortScratch c = refused_early c.begin.ensures (ap beginning_said c.in-ShortScratch.is) _
 
 pub rough_spec : {M : Type 1} → statement M
 rough_spec =
     tie.close
-    (tie.spec (λ c κs. search rules) (λ c. search rules) rough-in-requires (λ c. search rules) (λ c. search rules) (λ c. search rules) returns (λ c. search rules) returns-2 (λ c. search rules) returns-3)
+    (tie.spec (λ c κs. search rules) (λ c. search rules) rough_in-requires (λ c. search rules) (λ c. search rules) (λ c. search rules) returns-in-Ready (λ c. search rules) returns-in-Unopened (λ c. search rules) returns-in-ShortScratch)

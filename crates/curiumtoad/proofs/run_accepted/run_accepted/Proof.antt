@@ -17,30 +17,28 @@ use Rattle.curiumtoad.proofs.run_accepted.run_accepted.Tie as tie
 soundly : {b : List ℕ} {n f : ℕ} {tuple : List ℕ} {count : ℕ} {r : Answer Accepted} → r ≡ accepted_call b n f tuple count → EndsSoundly b n f tuple count r
 soundly {b} {n} {f} {tuple} {count} e o q = accepted_sound b n f tuple count o (sym e ∙ q)
 
-accepted-in-requires : tie.Need-accepted-in-requires
-accepted-in-requires c κs = let k = c.before.before in k.before.before.before.before.begin.ensures.prepared _ k.b.given.1
+accepted_in-requires : tie.Need-accepted_in-requires
+accepted_in-requires c κs = c.begin.ensures.prepared _ c.in-Ready.is
 
-returns : tie.Need-returns
+returns-in-Ready : tie.Need-returns-in-Ready
 unfolding accepted_call
-returns c =
-    let k = c.before.before.before in
-    let r = ready k.before.before.before.before.begin.ensures k.b.given.1 _ c.accepted-in.ensures in
+returns-in-Ready c =
+    let r = ready c.begin.ensures c.in-Ready.is _ c.accepted_in.ensures in
     (r.0, (soundly r.0, r.1))
 
-returns-2 : tie.Need-returns-2
+returns-in-Unopened : tie.Need-returns-in-Unopened
 unfolding accepted_call
-returns-2 c =
-    let k = c.before in
-    let r = refused_early k.before.before.before.before.begin.ensures (ap beginning_said k.found.given.1) _ in
+returns-in-Unopened c =
+    let r = refused_early c.begin.ensures (ap beginning_said c.in-Unopened.is) _ in
     (r.0, (soundly r.0, r.1))
 
-returns-3 : tie.Need-returns-3
+returns-in-ShortScratch : tie.Need-returns-in-ShortScratch
 unfolding accepted_call
-returns-3 c =
-    let r = refused_early c.before.before.before.before.begin.ensures (ap beginning_said c.enum_told.given.1) _ in
+returns-in-ShortScratch c =
+    let r = refused_early c.begin.ensures (ap beginning_said c.in-ShortScratch.is) _ in
     (r.0, (soundly r.0, r.1))
 
 pub run_accepted_spec : {M : Type 1} → statement M
 run_accepted_spec =
     tie.close
-    (tie.spec (λ c κs. search rules) (λ c. search rules) accepted-in-requires (λ c. search rules) (λ c. search rules) (λ c. search rules) returns (λ c. search rules) returns-2 (λ c. search rules) returns-3)
+    (tie.spec (λ c κs. search rules) (λ c. search rules) accepted_in-requires (λ c. search rules) (λ c. search rules) (λ c. search rules) returns-in-Ready (λ c. search rules) returns-in-Unopened (λ c. search rules) returns-in-ShortScratch)

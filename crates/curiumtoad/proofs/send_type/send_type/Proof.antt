@@ -8,30 +8,27 @@ use Rattle.preparation.proofs.Called.{is_refused, is_ready}
 use Rattle.curiumtoad.proofs.send_type.send_type.Statement.{statement}
 use Rattle.curiumtoad.proofs.send_type.send_type.Tie as tie
 
-returns : tie.Need-returns
+returns-in-Ready : tie.Need-returns-in-Ready
 unfolding send_type_call row_after
-returns c =
-    let s = c.before.before in
-    let k = s.before.before.before.before in
-    let h = k.before.before.before.before.begin.ensures in
-    rw (is_ready h k.b.given.1) (s.send-type-in.ensures.0, (h.filled, s.send-type-in.ensures.1))
+returns-in-Ready c =
+    let h = c.begin.ensures in
+    rw (is_ready h c.in-Ready.is) (c.send_type_in.ensures.0, (h.filled, c.send_type_in.ensures.1))
 
-returns-2 : tie.Need-returns-2
+returns-in-Unopened : tie.Need-returns-in-Unopened
 unfolding send_type_call row_after row_on
-returns-2 c =
-    let k = c.before in
-    let h = k.before.before.before.before.begin.ensures in
-    rw (is_refused h (ap beginning_said k.found.given.1)) (refl, (h.filled, refl))
+returns-in-Unopened c =
+    let h = c.begin.ensures in
+    rw (is_refused h (ap beginning_said c.in-Unopened.is)) (refl, (h.filled, refl))
 
-returns-3 : tie.Need-returns-3
+returns-in-ShortScratch : tie.Need-returns-in-ShortScratch
 unfolding send_type_call row_after row_on
-returns-3 c =
-    let h = c.before.before.before.before.begin.ensures in
-    rw (is_refused h (ap beginning_said c.enum_told.given.1)) (refl, (h.filled, refl))
+returns-in-ShortScratch c =
+    let h = c.begin.ensures in
+    rw (is_refused h (ap beginning_said c.in-ShortScratch.is)) (refl, (h.filled, refl))
 
 pub send_type_spec : {M : Type 1} → statement M
 send_type_spec =
     tie.close
     (tie.spec (λ c κs. search rules) (λ c. search rules)
-    (λ c κs. let k = c.before.before.before in k.before.before.before.before.begin.ensures.prepared _ k.b.given.1)
-    (λ c. search rules) (λ c. search rules) (λ c. search rules) (λ c. search rules) returns (λ c. search rules) returns-2 (λ c. search rules) returns-3)
+    (λ c κs. c.begin.ensures.prepared _ c.in-Ready.is)
+    (λ c. search rules) (λ c. search rules) (λ c. search rules) (λ c. search rules) returns-in-Ready (λ c. search rules) returns-in-Unopened (λ c. search rules) returns-in-ShortScratch)

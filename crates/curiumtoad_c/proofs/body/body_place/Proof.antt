@@ -8,36 +8,25 @@ use Rattle.curiumtoad_c.proofs.Placing.{span_reply}
 use Rattle.curiumtoad_c.proofs.body.body_place.Statement.{statement}
 use Rattle.curiumtoad_c.proofs.body.body_place.Tie as tie
 
+returns-in_default : tie.Need-returns-in_default
+returns-in_default c =
+    let f = c.in_default.field-0 in
+    rw (view_refused c.args.bundle.now c.args.method f (rw c.in_default.is at c.open-opening.ensures.1))
+    (rw c.in_default.is at c.of_opening.ensures)
+
+returns-then-b-method : tie.Need-returns-then-b-method
+returns-then-b-method c =
+    rw (view_absent c.args.bundle.now c.args.method (rw c.in-Opened.is at c.open-opening.ensures.1) (search rules)) c.pair.ensures
+
+body_span-span-requires : tie.Need-body_span-span-requires
+body_span-span-requires c κs =
+    (opened_of (rw c.in-Opened.is at c.open-opening.ensures.1), search rules)
+
 returns : tie.Need-returns
 returns c =
-    let t = c.before in
-    let o = t.before.before in
-    let g = o.before.before in
-    let f = t.enum_told.given.0.0 in
-    rw (view_refused g.args.bundle.now g.args.method f (rw t.enum_told.given.1 at o.«open».ensures.1))
-    (rw t.enum_told.given.1 at c.of-opening.ensures)
-
-returns-2 : tie.Need-returns-2
-returns-2 c =
-    let k = c.before.before.before.before in
-    let o = k.before.before in
-    let g = o.before.before in
-    rw (view_absent g.args.bundle.now g.args.method (rw k.opening.given.1 at o.«open».ensures.1) (search rules)) c.pair.ensures
-
-body-span-requires : tie.Need-body-span-requires
-body-span-requires c κs =
-    let k = c.before.before.before in
-    (opened_of (rw k.opening.given.1 at k.before.before.«open».ensures.1), search rules)
-
-returns-3 : tie.Need-returns-3
-returns-3 c =
-    let s = c.before in
-    let k = s.before.before.before.before in
-    let o = k.before.before in
-    let g = o.before.before in
-    let opened = rw k.opening.given.1 at o.«open».ensures.1 in
-    rw (view_given g.args.bundle.now g.args.method opened (search rules))
-    (c.pair2.ensures ∙ span_reply g.args.bundle.now g.args.method opened (search rules) s.body-span.result s.body-span.ensures)
+    let opened = rw c.in-Opened.is at c.open-opening.ensures.1 in
+    rw (view_given c.args.bundle.now c.args.method opened (search rules))
+    (c.pair-2.ensures ∙ span_reply c.args.bundle.now c.args.method opened (search rules) c.body_span-span.result c.body_span-span.ensures)
 
 pub body_place_spec : {M : Type 1} → statement M
 body_place_spec =
@@ -47,9 +36,9 @@ body_place_spec =
     (λ c. search rules)
     (λ c. search rules)
     (λ c κs. search rules)
-    returns
+    returns-in_default
     (λ c κs. search rules)
-    returns-2
-    body-span-requires
+    returns-then-b-method
+    body_span-span-requires
     (λ c κs. search rules)
-    returns-3)
+    returns)

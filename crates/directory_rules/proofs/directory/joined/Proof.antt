@@ -14,50 +14,47 @@ use Rattle.rules.proofs.Decides.{every_upto}
 use Rattle.directory_rules.proofs.directory.joined.Statement.{statement}
 use Rattle.directory_rules.proofs.directory.joined.Tie as tie
 
-abbrev invariant-loop : tie.invariant-loop
-invariant-loop bytes k₀ k = (k ≤ code_section) × ((j : ℕ) → j < k → next_rule bytes j ≡ true)
+abbrev invariant-loop-k : tie.invariant-loop-k
+invariant-loop-k bytes k₀ k = (k ≤ code_section) × ((j : ℕ) → j < k → next_rule bytes j ≡ true)
 
-abbrev decreases-loop : tie.decreases-loop
-decreases-loop bytes k₀ k = code_section - k
+abbrev decreases-loop-k : tie.decreases-loop-k
+decreases-loop-k bytes k₀ k = code_section - k
 
-returns : tie.Need-returns invariant-loop decreases-loop
+returns-then-section_at-section_len : tie.Need-returns-then-section_at-section_len invariant-loop-k decreases-loop-k
 unfolding section_end
-returns c =
-    let s = c.before.before.before.before in
-    let b = s.before.before.before.args.bytes.now in
-    let k = s.before.loop.k in
+returns-then-section_at-section_len c =
+    let b = c.args.bytes.now in
+    let k = c.loop-k.k in
     sym
     ((every_upto (next_rule b) code_section).breaks k (search rules)
-    (ne_eqb (offset b (suc k)) (offset b k + extent b k) (λ q. c.if1.true (cc (add-one k)))))
+    (ne_eqb (offset b (suc k)) (offset b k + extent b k) (λ q. c.if-section_at-section_len.true (cc (add-one k)))))
 
-loop-again : tie.Need-loop-preserved invariant-loop decreases-loop
+loop-k-preserved : tie.Need-loop-k-preserved invariant-loop-k decreases-loop-k
 unfolding section_end
-loop-again c =
-    let s = c.before.before.before.before in
-    let b = s.before.before.before.args.bytes.now in
-    let k = s.before.loop.k in
-    (search rules, below_more _ _ s.before.loop.invariant.1 (eq-eqb (offset b (suc k)) (offset b k + extent b k) (cc (add-one k))))
+loop-k-preserved c =
+    let b = c.args.bytes.now in
+    let k = c.loop-k.k in
+    (search rules, below_more _ _ c.loop-k.invariant.1 (eq-eqb (offset b (suc k)) (offset b k + extent b k) (cc (add-one k))))
 
-returns-2 : tie.Need-returns-2 invariant-loop decreases-loop
-returns-2 c =
-    let s = c.before in
-    let b = s.before.before.args.bytes.now in
-    sym ((every_upto (next_rule b) code_section).holds (λ j l. s.loop.invariant.1 j (omega arith)))
+returns : tie.Need-returns invariant-loop-k decreases-loop-k
+returns c =
+    let b = c.args.bytes.now in
+    sym ((every_upto (next_rule b) code_section).holds (λ j l. c.loop-k.invariant.1 j (omega arith)))
 
 pub joined_spec : {M : Type 1} → statement M
 joined_spec =
     tie.close
     (tie.spec
-    invariant-loop
-    decreases-loop
+    invariant-loop-k
+    decreases-loop-k
     (λ c. (search rules, below_none _))
     (λ c. search rules)
     (λ c κs. search rules)
     (λ c κs. search rules)
     (λ c κs. search rules)
     (λ c. search rules)
-    returns
+    returns-then-section_at-section_len
     (λ c. search rules)
     (λ c. search rules)
-    loop-again
-    returns-2)
+    loop-k-preserved
+    returns)

@@ -9,4 +9,4 @@ use Rattle.directory_rules.proofs.limits.size_holds.Tie as tie
 
 pub size_holds_spec : {M : Type 1} → statement M
 unfolding size_rule
-size_holds_spec = tie.close (tie.spec (λ c. rw (lt-leb 24 (length c.before.args.bytes.now) (omega arith))) (λ c. rw (le-leb 24 (length c.before.args.bytes.now) (omega arith))))
+size_holds_spec = tie.close (tie.spec (λ c. rw (lt-leb 24 (length c.args.bytes.now) (omega arith))) (λ c. rw (le-leb 24 (length c.args.bytes.now) (omega arith))))

@@ -7,36 +7,35 @@ use Rattle.rules.specs.Layout.{limit_rule}
 use Rattle.directory_rules.proofs.limits.within_limits.Statement.{statement}
 use Rattle.directory_rules.proofs.limits.within_limits.Tie as tie
 
+returns-then-b-eq0 : tie.Need-returns-then-b-eq0
+unfolding limit_rule
+returns-then-b-eq0 c = rw (← c.requires.classes, le-ltb 0 c.args.b.classes (omega arith))
+
+returns-then-b-gt-CLASSES : tie.Need-returns-then-b-gt-CLASSES
+unfolding limit_rule
+returns-then-b-gt-CLASSES c = rw (← c.requires.classes, lt-leb _ _ c.if-b-gt-CLASSES.true) (simp and-false)
+
+returns-then-b-gt-FUNCTIONS : tie.Need-returns-then-b-gt-FUNCTIONS
+unfolding limit_rule
+returns-then-b-gt-FUNCTIONS c = rw (← c.requires.functions, lt-leb _ _ c.if-b-gt-FUNCTIONS.true) (simp and-false)
+
+returns-then-b-gt-SIGNATURES : tie.Need-returns-then-b-gt-SIGNATURES
+unfolding limit_rule
+returns-then-b-gt-SIGNATURES c = rw (← c.requires.signatures, lt-leb _ _ c.if-b-gt-SIGNATURES.true) (simp and-false)
+
 returns : tie.Need-returns
 unfolding limit_rule
-returns c = let s = c.before.before in rw (← s.requires.classes, le-ltb 0 s.args.b.classes (omega arith))
-
-returns-2 : tie.Need-returns-2
-unfolding limit_rule
-returns-2 c = rw (← c.before.before.before.before.requires.classes, lt-leb _ _ c.if2.true) (simp and-false)
-
-returns-3 : tie.Need-returns-3
-unfolding limit_rule
-returns-3 c = rw (← c.before.before.before.before.before.before.requires.functions, lt-leb _ _ c.if3.true) (simp and-false)
-
-returns-4 : tie.Need-returns-4
-unfolding limit_rule
-returns-4 c = rw (← c.before.before.before.before.before.before.before.before.requires.signatures, lt-leb _ _ c.if4.true) (simp and-false)
-
-returns-5 : tie.Need-returns-5
-unfolding limit_rule
-returns-5 c =
-    let s = c.before.before.before.before.before.before.before.before.before in
+returns c =
     rw (
-      ← s.requires.classes,
-      lt-ltb 0 s.args.b.classes (omega arith),
-      le-leb s.args.b.classes 128 (omega arith),
-      ← s.requires.functions,
-      le-leb s.args.b.functions 64 (omega arith),
-      ← s.requires.signatures,
-      le-leb s.args.b.signatures 256 (omega arith),
-      ← s.requires.methods,
+      ← c.requires.classes,
+      lt-ltb 0 c.args.b.classes (omega arith),
+      le-leb c.args.b.classes 128 (omega arith),
+      ← c.requires.functions,
+      le-leb c.args.b.functions 64 (omega arith),
+      ← c.requires.signatures,
+      le-leb c.args.b.signatures 256 (omega arith),
+      ← c.requires.methods,
     )
 
 pub within_limits_spec : {M : Type 1} → statement M
-within_limits_spec = tie.close (tie.spec returns returns-2 returns-3 returns-4 returns-5)
+within_limits_spec = tie.close (tie.spec returns-then-b-eq0 returns-then-b-gt-CLASSES returns-then-b-gt-FUNCTIONS returns-then-b-gt-SIGNATURES returns)

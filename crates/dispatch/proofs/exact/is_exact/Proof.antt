@@ -10,14 +10,14 @@ use Rattle.subclasses.proofs.Asked.{specialisers_long}
 use Rattle.dispatch.proofs.exact.is_exact.Statement.{statement}
 use Rattle.dispatch.proofs.exact.is_exact.Tie as tie
 
-each-same-requires : tie.Need-each-same-requires
-each-same-requires c κs =
-    let p = c.before.before.before.requires in
+each_same-requires : tie.Need-each_same-requires
+each_same-requires c κs =
+    let p = c.requires in
     sym (ap length c.specialisers.ensures.1 ∙ specialisers_long p.0 p.1)
 
 returns : tie.Need-returns
 unfolding exact
-returns c = c.each_same.ensures ∙ ap (matching eqb _) c.before.specialisers.ensures.1
+returns c = c.each_same.ensures ∙ ap (matching eqb _) c.specialisers.ensures.1
 
 pub is_exact_spec : {M : Type 1} → statement M
-is_exact_spec = tie.close (tie.spec (λ c κs. search rules) each-same-requires returns)
+is_exact_spec = tie.close (tie.spec (λ c κs. search rules) each_same-requires returns)

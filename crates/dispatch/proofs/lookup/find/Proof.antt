@@ -10,26 +10,26 @@ use Rattle.dispatch.proofs.Listed.{applicable_listed}
 use Rattle.dispatch.proofs.lookup.find.Statement.{statement}
 use Rattle.dispatch.proofs.lookup.find.Tie as tie
 
-array-share-prefix-list : tie.Need-array-share-prefix-list
-array-share-prefix-list c = c.before.applicable.ensures.room
+slice_bounds-list-end : tie.Need-slice_bounds-list-end
+slice_bounds-list-end c = c.applicable-count.ensures.room
 
 select-requires : tie.Need-select-requires
 select-requires c κs =
-    let p = c.before.before.before.before.before.before.before.before.requires in
-    (p.0, record { arity = p.1.1.arity; methods = rw c.before.before.applicable.ensures.holds (applicable_listed _ _ _ _) })
+    let p = c.requires in
+    (p.0, record { arity = p.1.1.arity; methods = rw c.applicable-count.ensures.holds (applicable_listed _ _ _ _) })
 
 returns : tie.Need-returns
 returns c =
-    let a = c.before.before.before.before.before.before.before.before.before.args in
-    c.select.ensures ∙ ap (rules.select (model_of a.bytes.now)) c.before.before.before.applicable.ensures.holds
+    let a = c.args in
+    c.select.ensures ∙ ap (rules.select (model_of a.bytes.now)) c.applicable-count.ensures.holds
 
 pub find_spec : {M : Type 1} → statement M
 find_spec =
     tie.close
     (tie.spec
     (λ c. search rules)
-    (λ c κs. let p = c.before.before.before.before.before.requires in (p.0, (p.1.0, (p.1.1, omega arith))))
-    array-share-prefix-list
-    (λ c. sym (length-take-le _ _ (array-share-prefix-list c.before)))
+    (λ c κs. let p = c.requires in (p.0, (p.1.0, (p.1.1, omega arith))))
+    slice_bounds-list-end
+    (λ c. sym (length-take-le _ _ (slice_bounds-list-end c.before)))
     select-requires
     returns)

@@ -13,11 +13,10 @@ use Rattle.dispatch.proofs.lookup.lookup.Tie as tie
 returns : tie.Need-returns
 unfolding rules.lookup
 returns c =
-    let s = c.before.before.before.before.before in
-    let M = model_of s.args.bytes.now in
+    let M = model_of c.args.bytes.now in
     c.find.ensures
     ∙ ap (rules.select M)
-    (ap (applicable_but M s.args.f s.args.args.now) (counts_of s.requires.0.opened).methods ∙ all_applicable M s.args.f s.args.args.now)
+    (ap (applicable_but M c.args.f c.args.args.now) (counts_of c.requires.0.opened).methods ∙ all_applicable M c.args.f c.args.args.now)
 
 pub lookup_spec : {M : Type 1} → statement M
 lookup_spec = tie.close (tie.spec (λ c κs. search rules) returns)

@@ -15,56 +15,53 @@ use Rattle.dispatch.proofs.Listed.{candidate_at, candidate_fits}
 use Rattle.dispatch.proofs.select.unbeaten.Statement.{statement}
 use Rattle.dispatch.proofs.select.unbeaten.Tie as tie
 
-abbrev invariant-loop : tie.invariant-loop
-invariant-loop bytes b scratch f n list m i₀ i =
+abbrev invariant-loop-i : tie.invariant-loop-i
+invariant-loop-i bytes b scratch f n list m i₀ i =
     (i ≤ length list) × ((k : ℕ) → k < i → (eqb (get_or list k 0) m || not (as_specific (model_of bytes) (get_or list k 0) m)) ≡ true)
 
-abbrev decreases-loop : tie.decreases-loop
-decreases-loop bytes b scratch f n list m i₀ i = length list - i
+abbrev decreases-loop-i : tie.decreases-loop-i
+decreases-loop-i bytes b scratch f n list m i₀ i = length list - i
 
-loop-again : tie.Need-loop-preserved invariant-loop decreases-loop
-loop-again c =
-    let l = c.before.before.before.loop in
-    (omega arith, below_more _ _ l.invariant.1 (or_left _ _ (eq-eqb _ _ c.if1.true)))
+loop-i-preserved-then-o-m : tie.Need-loop-i-preserved-then-o-m invariant-loop-i decreases-loop-i
+loop-i-preserved-then-o-m c =
+    let l = c.loop-i in
+    (omega arith, below_more _ _ l.invariant.1 (or_left _ _ (eq-eqb _ _ c.if-o-m.true)))
 
-as-specific-requires : tie.Need-as-specific-requires invariant-loop decreases-loop
-as-specific-requires c κs =
-    let s = c.before.before in
-    let p = s.before.before.before.before.before.requires in
-    (p.0, (candidate_at p.1.0 s.before.loop.i s.loop-test.true, p.1.1))
+as_specific-requires : tie.Need-as_specific-requires invariant-loop-i decreases-loop-i
+as_specific-requires c κs =
+    let p = c.requires in
+    (p.0, (candidate_at p.1.0 c.loop-i.i c.loop-i-test.true, p.1.1))
 
-returns : tie.Need-returns invariant-loop decreases-loop
+returns-then-as_specific : tie.Need-returns-then-as_specific invariant-loop-i decreases-loop-i
 unfolding unbeaten
-returns c =
-    let s = c.before.before.before.before in
-    sym (every_broken _ _ 0 s.before.loop.i s.loop-test.true
-    (or_none _ _ (ne_eqb _ _ c.before.before.if1.false) (ap not (sym c.before.as-specific.ensures ∙ c.if2.true))))
+returns-then-as_specific c =
+    sym (every_broken _ _ 0 c.loop-i.i c.loop-i-test.true
+    (or_none _ _ (ne_eqb _ _ c.if-o-m.false) (ap not (sym c.as_specific.ensures ∙ c.if-as_specific.true))))
 
-loop-again-2 : tie.Need-loop-preserved-2 invariant-loop decreases-loop
-loop-again-2 c =
-    let s = c.before.before.before.before.before in
-    let a = s.before.before.before.before.args in
-    (omega arith, below_more _ _ s.loop.invariant.1 (or_right (eqb (get_or a.list.now s.loop.i 0) a.m) _ (ap not (sym c.before.as-specific.ensures ∙ c.if2.false))))
+loop-i-preserved : tie.Need-loop-i-preserved invariant-loop-i decreases-loop-i
+loop-i-preserved c =
+    let a = c.args in
+    (omega arith, below_more _ _ c.loop-i.invariant.1 (or_right (eqb (get_or a.list.now c.loop-i.i 0) a.m) _ (ap not (sym c.as_specific.ensures ∙ c.if-as_specific.false))))
 
-returns-2 : tie.Need-returns-2 invariant-loop decreases-loop
+returns : tie.Need-returns invariant-loop-i decreases-loop-i
 unfolding unbeaten
-returns-2 c = sym (every_places _ _ 0 (λ k l. c.before.loop.invariant.1 k (omega arith)))
+returns c = sym (every_places _ _ 0 (λ k l. c.loop-i.invariant.1 k (omega arith)))
 
 pub unbeaten_spec : {M : Type 1} → statement M
 unbeaten_spec =
     tie.close
     (tie.spec
-    invariant-loop
-    decreases-loop
+    invariant-loop-i
+    decreases-loop-i
     (λ c. (omega arith, below_none _))
     (λ c. omega arith)
     (λ c. omega arith)
-    (λ c. let p = c.before.before.before.before.before.before.requires in omega (arith, candidate_fits p.0 p.1.0 c.before.before.loop.i c.before.loop-test.true))
+    (λ c. let p = c.requires in omega (arith, candidate_fits p.0 p.1.0 c.loop-i.i c.loop-i-test.true))
     (λ c. omega arith)
     (λ c. omega arith)
-    loop-again
-    as-specific-requires
-    returns
+    loop-i-preserved-then-o-m
+    as_specific-requires
+    returns-then-as_specific
     (λ c. omega arith)
-    loop-again-2
-    returns-2)
+    loop-i-preserved
+    returns)

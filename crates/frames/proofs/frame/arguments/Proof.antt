@@ -10,12 +10,12 @@ use Rattle.frames.specs.Arrays.{frame_bytes}
 use Rattle.frames.proofs.frame.arguments.Statement.{statement}
 use Rattle.frames.proofs.frame.arguments.Tie as tie
 
-padded-tuple-requires : tie.Need-padded-tuple-requires
-padded-tuple-requires c κs =
-    let a = c.before.before.args in
+padded_tuple-requires : tie.Need-padded_tuple-requires
+padded_tuple-requires c κs =
+    let a = c.args in
     rw c.part.ensures.1 (omega (arith, part_length a.values.now (frame_bytes * a.k) a.n (omega arith)))
 
 pub arguments_spec : {M : Type 1} → statement M
 arguments_spec =
     tie.close
-    (tie.spec (λ c. search rules) (λ c κs. search rules) padded-tuple-requires (λ c. c.padded-tuple.ensures ∙ ap padded c.before.part.ensures.1))
+    (tie.spec (λ c. search rules) (λ c κs. search rules) padded_tuple-requires (λ c. c.padded_tuple.ensures ∙ ap padded c.part.ensures.1))

@@ -10,9 +10,9 @@ use Rattle.frames.specs.Arrays.{stack_at, height_at}
 use Rattle.frames.proofs.stack.pop.Statement.{statement}
 use Rattle.frames.proofs.stack.pop.Tie as tie
 
-padded-tuple-requires : tie.Need-padded-tuple-requires
-padded-tuple-requires c κs =
-    let a = c.before.before.before.before.args in
+padded_tuple-requires : tie.Need-padded_tuple-requires
+padded_tuple-requires c κs =
+    let a = c.args in
     rw c.part.ensures.1 (omega (arith, part_length a.values.now (stack_at a.k + (height_at a.frames.now a.k - a.n)) a.n (omega arith)))
 
 pub pop_spec : {M : Type 1} → statement M
@@ -32,6 +32,6 @@ pop_spec =
     (λ c. search rules)
     (λ c. search rules)
     (λ c κs. search rules)
-    padded-tuple-requires
+    padded_tuple-requires
     (λ c. search rules)
-    (λ c. (c.padded-tuple.ensures ∙ ap padded c.before.part.ensures.1, refl)))
+    (λ c. (c.padded_tuple.ensures ∙ ap padded c.part.ensures.1, refl)))

@@ -5,4 +5,4 @@ use Rattle.layout.proofs.bundle.counted.Statement.{statement}
 use Rattle.layout.proofs.bundle.counted.Tie as tie
 
 pub counted_spec : {M : Type 1} → statement M
-counted_spec = tie.close (tie.spec (λ c κs. search rules) (λ c κs. search rules) (λ c. search rules) (λ c. record { place = search rules; records = rw c.section-len.ensures.0 }))
+counted_spec = tie.close (tie.spec (λ c κs. search rules) (λ c κs. search rules) (λ c. search rules) (λ c. record { place = search rules; records = rw c.section_len.ensures.0 }))

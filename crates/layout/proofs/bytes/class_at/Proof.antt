@@ -8,12 +8,12 @@ use Rattle.rules.specs.Bytes.{byte}
 use Rattle.layout.proofs.bytes.class_at.Statement.{statement}
 use Rattle.layout.proofs.bytes.class_at.Tie as tie
 
-returns : tie.Need-returns
-returns c = (sym (get_or-eq_default c.before.before.args.classes.now 0 c.if1.true), omega arith)
+returns-then-classes-place : tie.Need-returns-then-classes-place
+returns-then-classes-place c = (sym (get_or-eq_default c.before.before.args.classes.now 0 c.if-classes-place.true), omega arith)
 
-returns-2 : tie.Need-returns-2
+returns : tie.Need-returns
 unfolding byte
-returns-2 c = c.byte_at.ensures
+returns c = c.byte_at.ensures
 
 pub class_at_spec : {M : Type 1} → statement M
-class_at_spec = tie.close (tie.spec returns (λ c κs. search rules) returns-2)
+class_at_spec = tie.close (tie.spec returns-then-classes-place (λ c κs. search rules) returns)

@@ -12,8 +12,8 @@ unfolding code_of
 returns c =
     let s = c.before.before.before.before in
     let tables = tables_of s.requires.0 in
-    let start = c.before.before.body-offset.ensures.0 in
-    let size = c.body_length_lem.ensures.0 in
+    let start = c.before.before.body_offset.ensures.0 in
+    let size = c.body_length-len.ensures.0 in
     record { place = cc; size = size; within = omega (arith, body_in s.requires.0 s.args.m s.requires.1); code = cc }
 
 pub body_span_spec : {M : Type 1} → statement M

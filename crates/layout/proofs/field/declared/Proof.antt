@@ -7,7 +7,7 @@ use Rattle.layout.proofs.field.declared.Statement.{statement}
 use Rattle.layout.proofs.field.declared.Tie as tie
 
 returns : tie.Need-returns
-returns c = let d = c.before in let s = d.before.before in rw (c.byte_at.ensures.0, d.declared-tuple-at.ensures.0) (declared_read s.requires.0 s.args.m s.args.place s.requires.1.0 s.requires.1.1)
+returns c = let d = c.before in let s = d.before.before in rw (c.byte_at.ensures.0, d.declared_tuple_at.ensures.0) (declared_read s.requires.0 s.args.m s.args.place s.requires.1.0 s.requires.1.1)
 
 pub declared_spec : {M : Type 1} → statement M
 declared_spec = tie.close (tie.spec (λ c κs. let s = c.before in (placed_of s.requires.0, s.requires.1.0)) (λ c. search rules) (λ c κs. search rules) returns)

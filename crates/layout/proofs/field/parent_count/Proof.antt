@@ -10,7 +10,7 @@ returns : tie.Need-returns
 returns c =
     let s = c.before.before in
     let o = s.requires.0 in
-    let same = c.parent-count.ensures.0 in
+    let same = c.parent_count.ensures.0 in
     let counted = parents_counted o s.args.c s.requires.1 in
     (cc, omega (arith, parents_few o s.args.c s.requires.1, placed_of o))
 

@@ -8,4 +8,4 @@ use Rattle.layout.proofs.field.sig_function.Tie as tie
 
 pub sig_function_spec : {M : Type 1} → statement M
 unfolding model_of
-sig_function_spec = tie.close (tie.spec (λ c κs. let s = c.before in (placed_of s.requires.0, s.requires.1)) (λ c. let s = c.before.before in let counts = counts_of s.requires.0 in (c.sig_function_lem.ensures, omega (arith, (wellformed_of s.requires.0).sig_function_lem s.args.s (omega arith)))))
+sig_function_spec = tie.close (tie.spec (λ c κs. let s = c.before in (placed_of s.requires.0, s.requires.1)) (λ c. let s = c.before.before in let counts = counts_of s.requires.0 in (c.sig_function.ensures, omega (arith, (wellformed_of s.requires.0).sig_function_lem s.args.s (omega arith)))))

@@ -8,4 +8,4 @@ use Rattle.layout.proofs.field.sig_result.Tie as tie
 
 pub sig_result_spec : {M : Type 1} → statement M
 unfolding model_of
-sig_result_spec = tie.close (tie.spec (λ c κs. let s = c.before in (placed_of s.requires.0, s.requires.1)) (λ c. let s = c.before.before in let counts = counts_of s.requires.0 in (c.sig_result_lem.ensures, omega (arith, (wellformed_of s.requires.0).sig_result_lem s.args.s (omega arith)))))
+sig_result_spec = tie.close (tie.spec (λ c κs. let s = c.before in (placed_of s.requires.0, s.requires.1)) (λ c. let s = c.before.before in let counts = counts_of s.requires.0 in (c.sig_result.ensures, omega (arith, (wellformed_of s.requires.0).sig_result_lem s.args.s (omega arith)))))

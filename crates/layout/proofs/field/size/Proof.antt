@@ -13,7 +13,7 @@ returns c =
     let well = wellformed_of s.requires.0 in
     let m = s.args.m in
     let counted = body_counted s.requires.0 m s.requires.1 in
-    let same = c.body_length_lem.ensures.0 in
+    let same = c.body_length.ensures.0 in
     (omega arith, omega (arith, well.body_some m (omega arith)), omega (arith, well.body_limit m (omega arith)))
 
 pub size_spec : {M : Type 1} → statement M

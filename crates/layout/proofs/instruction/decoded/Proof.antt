@@ -17,25 +17,25 @@ decode_other (suc (suc zero)) operand h = absurd (omega arith)
 decode_other (suc (suc (suc zero))) operand h = absurd (omega arith)
 decode_other (suc (suc (suc (suc n)))) operand h = refl
 
-returns : tie.Need-returns
+returns-in-0 : tie.Need-returns-in-0
 unfolding instr decode
-returns c = let is : c.before.args.operation ≡ 0 = omega arith in rw is
+returns-in-0 c = let is : c.before.args.operation ≡ 0 = omega arith in rw is
 
-returns-2 : tie.Need-returns-2
+returns-in-1 : tie.Need-returns-in-1
 unfolding instr decode
-returns-2 c = let is : c.before.args.operation ≡ 1 = omega arith in rw is
+returns-in-1 c = let is : c.before.args.operation ≡ 1 = omega arith in rw is
 
-returns-3 : tie.Need-returns-3
+returns-in-2 : tie.Need-returns-in-2
 unfolding instr decode
-returns-3 c = let is : c.before.args.operation ≡ 2 = omega arith in rw is
+returns-in-2 c = let is : c.before.args.operation ≡ 2 = omega arith in rw is
 
-returns-4 : tie.Need-returns-4
+returns-in-3 : tie.Need-returns-in-3
 unfolding instr decode
-returns-4 c = let is : c.before.args.operation ≡ 3 = omega arith in rw is
+returns-in-3 c = let is : c.before.args.operation ≡ 3 = omega arith in rw is
 
-returns-5 : tie.Need-returns-5
+returns-in_default : tie.Need-returns-in_default
 unfolding instr
-returns-5 c = decode_other c.before.args.operation c.before.args.operand (omega arith)
+returns-in_default c = decode_other c.before.args.operation c.before.args.operand (omega arith)
 
 pub decoded_spec : {M : Type 1} → statement M
-decoded_spec = tie.close (tie.spec returns returns-2 returns-3 returns-4 returns-5)
+decoded_spec = tie.close (tie.spec returns-in-0 returns-in-1 returns-in-2 returns-in-3 returns-in_default)

@@ -11,5 +11,5 @@ signature_classes_spec =
     tie.close
     (tie.spec
     (λ c κs. let p = c.before.requires in (placed_of p.0, p.1.0))
-    (λ c κs. let p = c.before.before.requires in omega (arith, signature_places p.0 p.1.0 p.1.1, c.sig-tuple-at.ensures.1))
+    (λ c κs. let p = c.before.before.requires in omega (arith, signature_places p.0 p.1.0 p.1.1, c.sig_tuple_at.ensures.1))
     (λ c. let p = c.before.before.before.requires in (cc, cc (signature_part p.0 p.1.0 p.1.1))))

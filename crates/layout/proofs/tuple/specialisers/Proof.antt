@@ -11,5 +11,5 @@ specialisers_spec =
     tie.close
     (tie.spec
     (λ c κs. let p = c.before.requires in (placed_of p.0, method_below p.0 p.1))
-    (λ c κs. let p = c.before.before.requires in omega (arith, method_places p.0 p.1, c.specialiser-tuple-at.ensures.1))
+    (λ c κs. let p = c.before.before.requires in omega (arith, method_places p.0 p.1, c.specialiser_tuple_at.ensures.1))
     (λ c. let p = c.before.before.before.requires in (cc, cc (specialisers_part p.0 p.1))))

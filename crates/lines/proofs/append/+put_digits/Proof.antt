@@ -31,78 +31,78 @@ abbrev claims : ℕ → put-digits-lts.Claims
 claims t = (digit-reads.Asked, digit-reads.Learnt, put_digits_below t, put-digits.Post)
 
 module _ (t : ℕ) where
-  digit_requires : put-digits-lts.Need-digit-requires (claims t) (put_digits_at t) put-digits.Post
-  digit_requires c κs = c.if1.true
+  digit-requires : put-digits-lts.Need-digit-requires (claims t) (put_digits_at t) put-digits.Post
+  digit-requires c κs = c.if-n-lt10.true
 
-  slice_write_text : put-digits-lts.Need-slice-write-text (claims t) (put_digits_at t) put-digits.Post
-  slice_write_text c = let p = c.before.before.before.requires.1 in omega (arith, p.0, p.1.1)
+  bounds-text-at : put-digits-lts.Need-bounds-text-at (claims t) (put_digits_at t) put-digits.Post
+  bounds-text-at c = let p = c.requires.1 in omega (arith, p.0, p.1.1)
 
-  add_result : put-digits-lts.Need-overflow-add-result (claims t) (put_digits_at t) put-digits.Post
-  add_result c = let p = c.before.before.before.requires.1 in omega (arith, p.0, p.1.1)
+  overflow_add-result : put-digits-lts.Need-overflow_add-result (claims t) (put_digits_at t) put-digits.Post
+  overflow_add-result c = let p = c.requires.1 in omega (arith, p.0, p.1.1)
 
-  same_length : put-digits-lts.Need-same-length (claims t) (put_digits_at t) put-digits.Post
-  same_length c = let a = c.before.before.before.args in length-set a.text.now a.at c.digit.result
+  shape_of-text-then-n-lt10 : put-digits-lts.Need-shape_of-text-then-n-lt10 (claims t) (put_digits_at t) put-digits.Post
+  shape_of-text-then-n-lt10 c = let a = c.args in length-set a.text.now a.at c.digit.result
 
-  returns : put-digits-lts.Need-returns (claims t) (put_digits_at t) put-digits.Post
-  returns c =
-      let s = c.before.before.before in
+  returns-then-n-lt10 : put-digits-lts.Need-returns-then-n-lt10 (claims t) (put_digits_at t) put-digits.Post
+  returns-then-n-lt10 c =
+      let s = c in
       let a = s.args in
       let p = s.requires.1 in
-      rw (c.digit.ensures, digits_one a.most a.n p.0 c.before.if1.true)
+      rw (c.digit.ensures, digits_one a.most a.n p.0 c.if-n-lt10.true)
       (grown_wider a.most (omega (arith, p.0)) (grown_byte a.text.now a.at (48 + a.n) (omega (arith, p.0, p.1.1))))
 
-  sub_put_digits : put-digits-lts.Need-overflow-sub-put-digits (claims t) (put_digits_at t) put-digits.Post
-  sub_put_digits c = let p = c.before.before.before.requires.1 in omega (arith, p.0)
+  overflow_sub-most : put-digits-lts.Need-overflow_sub-most (claims t) (put_digits_at t) put-digits.Post
+  overflow_sub-most c = let p = c.requires.1 in omega (arith, p.0)
 
-  put_digits_requires : put-digits-lts.Need-put-digits-requires (claims t) (put_digits_at t) put-digits.Post
-  put_digits_requires c κs =
-      let s = c.before.before.before in
+  put_digits-end-requires : put-digits-lts.Need-put_digits-end-requires (claims t) (put_digits_at t) put-digits.Post
+  put_digits-end-requires c κs =
+      let s = c in
       let a = s.args in
       let p = s.requires.1 in
-      let (some, room) = room_more a.most a.n c.before.if1.false p.1.0 in
+      let (some, room) = room_more a.most a.n c.if-n-lt10.false p.1.0 in
       (omega (arith, s.requires.0, p.0), (omega (arith, some), (room, omega (arith, p.0, p.1.1))))
 
-  digit_requires_2 : put-digits-lts.Need-digit-requires-2 (claims t) (put_digits_at t) put-digits.Post
-  digit_requires_2 c κs = omega arith
+  digit-requires-2 : put-digits-lts.Need-digit-requires-2 (claims t) (put_digits_at t) put-digits.Post
+  digit-requires-2 c κs = omega arith
 
   -- where the call began, what the digits before the last have written, and that there are some
-  abbrev start : (c : put-digits-lts.After-digit2 (claims t) (put_digits_at t) put-digits.Post) → put-digits-lts.Start (claims t) (put_digits_at t) put-digits.Post
+  abbrev start : (c : put-digits-lts.After-digit-2 (claims t) (put_digits_at t) put-digits.Post) → put-digits-lts.Start (claims t) (put_digits_at t) put-digits.Post
   start c = c.before.before.before.before.before.before.before
 
-  inner : (c : put-digits-lts.After-digit2 (claims t) (put_digits_at t) put-digits.Post)
+  inner : (c : put-digits-lts.After-digit-2 (claims t) (put_digits_at t) put-digits.Post)
       → let a = (start c).args in
-      let done = c.before.before.before.put-digits in
-      Appended (a.most - 1) a.text.now a.at (digits (a.most - 1) (a.n / 10)) done.new.0 done.result
-  inner c = c.before.before.before.put-digits.ensures
+      let done = c.put_digits-end in
+      Appended (a.most - 1) a.text.now a.at (digits (a.most - 1) (a.n / 10)) done.new.text done.result
+  inner c = c.put_digits-end.ensures
 
-  more : (c : put-digits-lts.After-digit2 (claims t) (put_digits_at t) put-digits.Post) → 10 ≤ (start c).args.n
-  more c = c.before.before.before.before.before.if1.false
+  more : (c : put-digits-lts.After-digit-2 (claims t) (put_digits_at t) put-digits.Post) → 10 ≤ (start c).args.n
+  more c = c.if-n-lt10.false
 
-  slice_write_text_2 : put-digits-lts.Need-slice-write-text-2 (claims t) (put_digits_at t) put-digits.Post
-  slice_write_text_2 c =
+  bounds-text-end : put-digits-lts.Need-bounds-text-end (claims t) (put_digits_at t) put-digits.Post
+  bounds-text-end c =
       let p = (start c).requires.1 in
       omega (arith, p.0, p.1.1, (inner c).bound, (inner c).same)
 
-  add_result_2 : put-digits-lts.Need-overflow-add-result-2 (claims t) (put_digits_at t) put-digits.Post
-  add_result_2 c =
+  overflow_add-result-2 : put-digits-lts.Need-overflow_add-result-2 (claims t) (put_digits_at t) put-digits.Post
+  overflow_add-result-2 c =
       let p = (start c).requires.1 in
       omega (arith, p.0, p.1.1, (inner c).bound)
 
-  same_length_2 : put-digits-lts.Need-same-length-2 (claims t) (put_digits_at t) put-digits.Post
-  same_length_2 c =
-      let done = c.before.before.before.put-digits in
-      length-set done.new.0 done.result c.digit2.result ∙ (inner c).same
+  shape_of-text : put-digits-lts.Need-shape_of-text (claims t) (put_digits_at t) put-digits.Post
+  shape_of-text c =
+      let done = c.put_digits-end in
+      length-set done.new.text done.result c.digit-2.result ∙ (inner c).same
 
-  returns_2 : put-digits-lts.Need-returns-2 (claims t) (put_digits_at t) put-digits.Post
-  returns_2 c =
+  returns : put-digits-lts.Need-returns (claims t) (put_digits_at t) put-digits.Post
+  returns c =
       let s = start c in
       let a = s.args in
-      let p = s.pre.1 in
-      rw (c.digit2.ensures, digits_more a.most a.n p.0 (more c))
+      let p = s.requires.1 in
+      rw (c.digit-2.ensures, digits_more a.most a.n p.0 (more c))
       (grown_wider a.most (omega (arith, p.0)) (grown_both (inner c) (grown_byte _ _ _ (omega (arith, p.0, p.1.1, (inner c).bound, (inner c).same)))))
 
-pub +put-digits-spec : {M : Type 1} → statement M
-+put-digits-spec =
-    close μ-put-digits λ t. put-digits-lts.spec (claims t) (put_digits_at t) put-digits.Post (digit_requires t) (slice_write_text t) (add_result t)
-    (same_length t) (returns t) (sub_put_digits t) (put_digits_requires t) (digit_requires_2 t) (slice_write_text_2 t) (add_result_2 t) (same_length_2 t)
-    (returns_2 t)
+pub +put_digits_spec : {M : Type 1} → statement M
++put_digits_spec =
+    close μ-put-digits λ t. put-digits-lts.spec (claims t) (put_digits_at t) put-digits.Post (digit-requires t) (bounds-text-at t) (overflow_add-result t)
+    (shape_of-text-then-n-lt10 t) (returns-then-n-lt10 t) (overflow_sub-most t) (put_digits-end-requires t) (digit-requires-2 t) (bounds-text-end t) (overflow_add-result-2 t) (shape_of-text t)
+    (returns t)

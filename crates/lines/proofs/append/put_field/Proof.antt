@@ -9,9 +9,7 @@ use Rattle.lines.proofs.append.put_field.Tie as tie
 returns : tie.Need-returns
 unfolding decimal
 returns c =
-    let s2 = c.before.before in
-    let s1 = s2.before.before.before.before in
-    (grown_both s1.put_word.ensures s2.put-digits.ensures)
+    (grown_both c.put_word-end.ensures c.put_digits.ensures)
 
 pub put_field_spec : {M : Type 1} → statement M
 put_field_spec = tie.close (tie.spec (λ c κs. search rules) (λ c κs. search rules) (λ c. search rules) returns)

@@ -10,44 +10,42 @@ use Rattle.lines.proofs.Growing.{grown_none, grown_copied, grown_wider, grown_as
 use Rattle.lines.proofs.append.put_word.Statement.{statement}
 use Rattle.lines.proofs.append.put_word.Tie as tie
 
-abbrev invariant-loop : tie.invariant-loop
-invariant-loop text₀ at word i₀ text i = (i ≤ length word) × Appended i text₀ at (take i word) text (at + i)
+abbrev invariant-loop-i : tie.invariant-loop-i
+invariant-loop-i text₀ at word i₀ text i = (i ≤ length word) × Appended i text₀ at (take i word) text (at + i)
 
-abbrev decreases-loop : tie.decreases-loop
-decreases-loop text₀ at word i₀ text i = length word - i
+abbrev decreases-loop-i : tie.decreases-loop-i
+decreases-loop-i text₀ at word i₀ text i = length word - i
 
-slice-write-text : tie.Need-slice-write-text invariant-loop decreases-loop
-slice-write-text c =
-    let s = c.before.before in
-    omega (arith, s.before.requires.0, s.before.requires.1, s.loop.invariant.1.same)
+bounds-text-at : tie.Need-bounds-text-at invariant-loop-i decreases-loop-i
+bounds-text-at c =
+    omega (arith, c.requires.0, c.requires.1, c.loop-i.invariant.1.same)
 
-loop-again : tie.Need-loop-preserved invariant-loop decreases-loop
-loop-again c =
-    let s = c.before.before in
-    let a = s.before.args in
-    let l = s.loop in
-    let within = c.before.loop-test.true in
-    (omega arith, grown_copied a.text.now l.text a.word.now a.at l.i (omega (arith, s.before.requires.0, s.before.requires.1, l.invariant.1.same)) (omega arith) l.invariant.1)
+loop-i-preserved : tie.Need-loop-i-preserved invariant-loop-i decreases-loop-i
+loop-i-preserved c =
+    let a = c.args in
+    let l = c.loop-i in
+    let within = c.loop-i-test.true in
+    (omega arith, grown_copied a.text.now l.text a.word.now a.at l.i (omega (arith, c.requires.0, c.requires.1, l.invariant.1.same)) (omega arith) l.invariant.1)
 
-returns : tie.Need-returns invariant-loop decreases-loop
+returns : tie.Need-returns invariant-loop-i decreases-loop-i
 returns c =
-    let l = c.before.loop in
-    let word = c.before.before.args.word.now in
-    grown_wider 12 (omega (arith, c.before.before.requires.0)) (grown_as (take_all l.i word (omega arith)) l.invariant.1)
+    let l = c.loop-i in
+    let word = c.args.word.now in
+    grown_wider 12 (omega (arith, c.requires.0)) (grown_as (take_all l.i word (omega arith)) l.invariant.1)
 
 pub put_word_spec : {M : Type 1} → statement M
 put_word_spec =
     tie.close
     (tie.spec
-    invariant-loop
-    decreases-loop
+    invariant-loop-i
+    decreases-loop-i
     (λ c. (omega arith, rw (add-zero c.args.at) (grown_none 0 c.args.text.now c.args.at)))
     (λ c. omega arith)
-    (λ c. omega (arith, c.before.before.loop.invariant.1.same))
-    slice-write-text
+    (λ c. omega (arith, c.loop-i.invariant.1.same))
+    bounds-text-at
     (λ c. omega arith)
     (λ c. omega arith)
-    loop-again
-    (λ c. omega (arith, c.before.before.requires.0, c.before.before.requires.1, c.before.loop.invariant.0))
-    (λ c. c.before.loop.invariant.1.same)
+    loop-i-preserved
+    (λ c. omega (arith, c.requires.0, c.requires.1, c.loop-i.invariant.0))
+    (λ c. c.loop-i.invariant.1.same)
     returns)

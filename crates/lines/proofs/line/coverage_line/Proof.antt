@@ -15,14 +15,11 @@ use Rattle.lines.proofs.line.coverage_line.Tie as tie
 
 returns : tie.Need-returns
 returns c =
-    let t = c.before.before in
-    let u = t.before.before.before.before in
-    let n = u.before.before.before.before.arity in
-    let s = u.before.before.before.before.before.before.before.before in
-    let found = s.args.found in
-    let number = u.before.wide.ensures ∙ u.before.before.number.ensures in
+    let n = c.arity-n in
+    let found = c.args.found in
+    let number = c.wide.ensures ∙ c.number.ensures in
     let text : ℕ → List ℕ = λ k. field "refused " k ++ field " signature " found.signature ++ field " send " found.send.function ++ classes (take n.result (tuple_of found.send)) in
-    coverage_written (model_of s.args.bundle.now) found (sym n.ensures.0) n.ensures.1 (grown_as (ap text number) u.put-send.ensures) t.put-failure.ensures
+    coverage_written (model_of c.args.bundle.now) found (sym n.ensures.0) n.ensures.1 (grown_as (ap text number) c.put_send-end.ensures) c.put_failure.ensures
 
 pub coverage_line_spec : {M : Type 1} → statement M
 coverage_line_spec =

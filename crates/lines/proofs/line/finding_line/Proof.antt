@@ -13,42 +13,33 @@ use borrow.Author.Rules.{rules}
 use Rattle.lines.proofs.line.finding_line.Statement.{statement}
 use Rattle.lines.proofs.line.finding_line.Tie as tie
 
-coverage-line-requires : tie.Need-coverage-line-requires
-coverage-line-requires c κs =
-    let s = c.before.before.before.before.before.before in
-    let g = c.before.before.found2.given in
-    (s.requires.0, (subst (NamedBy s.args.b.functions) g.1 s.requires.1.0, s.requires.1.1))
+coverage_line-requires : tie.Need-coverage_line-requires
+coverage_line-requires c κs =
+    (c.requires.0, (subst (NamedBy c.args.b.functions) c.in-Coverage.is c.requires.1.0, c.requires.1.1))
 
-returns : tie.Need-returns
+returns-in-Layout : tie.Need-returns-in-Layout
 unfolding verdict_line
-returns c =
-    let t = c.before.before in
-    let g = t.before.before.before.found.given in
-    let M = model_of t.before.before.before.before.before.before.before.args.bundle.now in
-    grown_as (ap (λ (x : finding-type.Finding). verdict_line M (verdict_said (refused_with x))) (sym g.1)) (grown_wider finding_room (omega arith) (t.layout-line.ensures M))
+returns-in-Layout c =
+    let M = model_of c.args.bundle.now in
+    grown_as (ap (λ (x : finding-type.Finding). verdict_line M (verdict_said (refused_with x))) (sym c.in-Layout.is)) (grown_wider finding_room (omega arith) (c.layout_line.ensures M))
 
-returns-2 : tie.Need-returns-2
+returns-in-Scratch : tie.Need-returns-in-Scratch
 unfolding verdict_line
-returns-2 c =
-    let t = c.before.before in
-    let M = model_of t.before.before.before.before.before.before.args.bundle.now in
-    grown_as (ap (λ (x : finding-type.Finding). verdict_line M (verdict_said (refused_with x))) (sym t.before.before.enum_told.given.1)) (grown_wider finding_room (omega arith) (t.number-line.ensures M))
+returns-in-Scratch c =
+    let M = model_of c.args.bundle.now in
+    grown_as (ap (λ (x : finding-type.Finding). verdict_line M (verdict_said (refused_with x))) (sym c.in-Scratch.is)) (grown_wider finding_room (omega arith) (c.number_line.ensures M))
 
-returns-3 : tie.Need-returns-3
+returns-in-Coverage : tie.Need-returns-in-Coverage
 unfolding verdict_line
-returns-3 c =
-    let t = c.before.before in
-    let g = t.before.before.before.found2.given in
-    let M = model_of t.before.before.before.before.before.before.before.args.bundle.now in
-    grown_as (ap (λ (x : finding-type.Finding). verdict_line M (verdict_said (refused_with x))) (sym g.1)) (grown_wider finding_room (omega arith) t.coverage-line.ensures)
+returns-in-Coverage c =
+    let M = model_of c.args.bundle.now in
+    grown_as (ap (λ (x : finding-type.Finding). verdict_line M (verdict_said (refused_with x))) (sym c.in-Coverage.is)) (grown_wider finding_room (omega arith) c.coverage_line.ensures)
 
-returns-4 : tie.Need-returns-4
+returns-in-Body : tie.Need-returns-in-Body
 unfolding verdict_line
-returns-4 c =
-    let t = c.before.before in
-    let g = t.before.before.before.found3.given in
-    let M = model_of t.before.before.before.before.before.before.before.args.bundle.now in
-    grown_as (ap (λ (x : finding-type.Finding). verdict_line M (verdict_said (refused_with x))) (sym g.1)) (grown_wider finding_room (omega arith) (t.body-line.ensures M))
+returns-in-Body c =
+    let M = model_of c.args.bundle.now in
+    grown_as (ap (λ (x : finding-type.Finding). verdict_line M (verdict_said (refused_with x))) (sym c.in-Body.is)) (grown_wider finding_room (omega arith) (c.body_line.ensures M))
 
 pub finding_line_spec : {M : Type 1} → statement M
 finding_line_spec =
@@ -60,14 +51,14 @@ finding_line_spec =
     (λ c. search rules)
     (λ c κs. search rules)
     (λ c. search rules)
-    coverage-line-requires
+    coverage_line-requires
     (λ c. search rules)
     (λ c κs. search rules)
     (λ c. search rules)
-    returns
+    returns-in-Layout
     (λ c. search rules)
-    returns-2
+    returns-in-Scratch
     (λ c. search rules)
-    returns-3
+    returns-in-Coverage
     (λ c. search rules)
-    returns-4)
+    returns-in-Body)

@@ -2,8 +2,7 @@
 -- Assumes nothing.
 use native.Mathlib.Omega.{arith}
 use mathlib.Core.Path.{◌≡◌, ap, sym}
-use mathlib.Core.List.{List, ◌++◌}
-use Prim.Native.Nat.{ℕ}
+use mathlib.Core.List.{◌++◌}
 use borrow.Author.Rules.{rules}
 use Rattle.rules.specs.Ascii.{ascii}
 use Rattle.answers.specs.declared.failure.Failure.{Failure}
@@ -18,24 +17,21 @@ use Rattle.lines.proofs.line.put_failure.Tie as tie
 told : {x y : Failure} → x ≡ y → methods (failure_methods y) ++ ascii "\n" ≡ methods (failure_methods x) ++ ascii "\n"
 told e = ap (λ (x : Failure). methods (failure_methods x) ++ ascii "\n") (sym e)
 
-returns : tie.Need-returns
-returns c =
-    let t = c.before.before in
-    grown_as (told t.before.before.before.failure.given.1) t.put-not-found.ensures
+returns-in-Lookup : tie.Need-returns-in-Lookup
+returns-in-Lookup c =
+    grown_as (told c.in-Lookup.is) c.put_not_found.ensures
 
-returns-2 : tie.Need-returns-2
+returns-in-Declared : tie.Need-returns-in-Declared
 unfolding field methods
-returns-2 c =
-    let t = c.before.before in
-    grown_as (told t.before.before.before.failure2.given.1) (grown_wider methods_room (omega arith) t.put-method.ensures)
+returns-in-Declared c =
+    grown_as (told c.in-Declared.is) (grown_wider methods_room (omega arith) c.put_method.ensures)
 
-returns-3 : tie.Need-returns-3
+returns-in-Result : tie.Need-returns-in-Result
 unfolding field methods
-returns-3 c =
-    let t = c.before.before in
-    grown_as (told t.before.before.before.failure3.given.1) (grown_wider methods_room (omega arith) t.put-method2.ensures)
+returns-in-Result c =
+    grown_as (told c.in-Result.is) (grown_wider methods_room (omega arith) c.put_method-in-Result.ensures)
 
 pub put_failure_spec : {M : Type 1} → statement M
 put_failure_spec =
     tie.close
-    (tie.spec (λ c. search rules) (λ c κs. search rules) (λ c. search rules) (λ c κs. search rules) (λ c. search rules) (λ c κs. search rules) (λ c. search rules) returns (λ c. search rules) returns-2 (λ c. search rules) returns-3)
+    (tie.spec (λ c. search rules) (λ c κs. search rules) (λ c. search rules) (λ c κs. search rules) (λ c. search rules) (λ c κs. search rules) (λ c. search rules) returns-in-Lookup (λ c. search rules) returns-in-Declared (λ c. search rules) returns-in-Result)

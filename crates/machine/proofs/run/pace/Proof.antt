@@ -7,28 +7,26 @@ use Rattle.machine.proofs.Runs.{progress_as, pace_turn}
 use Rattle.machine.proofs.run.pace.Statement.{statement}
 use Rattle.machine.proofs.run.pace.Tie as tie
 
-return-values-requires : tie.Need-return-values-requires
-return-values-requires c κs =
-    (c.before.before.before.before.before.before.before.before.before.before.before.before.before.before.before.before.before.requires.0.opened, rw c.before.before.before.next.given.1 at c.before.before.before.before.before.before.before.before.before.step.ensures.holding)
+return_values-requires : tie.Need-return_values-requires
+return_values-requires c κs =
+    (c.requires.0.opened, rw c.in-Made.is at c.step.ensures.holding)
 
-returns : tie.Need-returns
+returns-in-Made : tie.Need-returns-in-Made
 unfolding landed counted resumed
-returns c =
-    let g = c.before.before.before.before.before.before.before.before.before.before.before.before.before.before.before.before.before.before.before.before.before.before in
-    progress_as c.before.before.before.before.return-values.ensures
-    (pace_turn _ _ _ g.args.top g.requires.1.1.0 g.args.steps _ (rw c.before.before.before.before.before.before.before.before.next.given.1 at c.before.before.before.before.before.before.before.before.before.before.before.before.before.before.step.ensures.turned))
+returns-in-Made c =
+    progress_as c.return_values.ensures
+    (pace_turn _ _ _ c.args.top c.requires.1.1.0 c.args.steps _ (rw c.in-Made.is at c.step.ensures.turned))
 
-returns-2 : tie.Need-returns-2
+returns-in-Failed : tie.Need-returns-in-Failed
 unfolding landed counted
-returns-2 c =
-    let g = c.before.before.before.before.before.before.before.before.before.before.before.before.before.before.before in
+returns-in-Failed c =
     record {
-      progressed = pace_turn _ _ _ g.args.top g.requires.1.1.0 g.args.steps _ (rw c.before.ending.given.1 at c.before.before.before.before.before.before.before.step.ensures.turned);
+      progressed = pace_turn _ _ _ c.args.top c.requires.1.1.0 c.args.steps _ (rw c.in-Failed.is at c.step.ensures.turned);
       onward = tt;
     }
 
 pub pace_spec : {M : Type 1} → statement M
 pace_spec =
     tie.close
-    (tie.spec (λ c κs. search rules) (λ c. search rules) (λ c. search rules) return-values-requires (λ c. search rules)
-    (λ c. search rules) (λ c. search rules) returns (λ c. search rules) (λ c. search rules) returns-2)
+    (tie.spec (λ c κs. search rules) (λ c. search rules) (λ c. search rules) return_values-requires (λ c. search rules)
+    (λ c. search rules) (λ c. search rules) returns-in-Made (λ c. search rules) (λ c. search rules) returns-in-Failed)

@@ -7,28 +7,28 @@ use Rattle.machine.proofs.Runs.{progress_as, start_turn}
 use Rattle.machine.proofs.run.start.Statement.{statement}
 use Rattle.machine.proofs.run.start.Tie as tie
 
-return-values-requires : tie.Need-return-values-requires
-return-values-requires c κs =
-    (c.before.before.before.before.before.before.before.before.before.before.before.before.before.before.before.before.before.before.requires.0.opened, rw c.before.before.before.top.given.1 at c.before.before.before.before.before.before.before.before.before.call.ensures.holding)
+return_values-requires : tie.Need-return_values-requires
+return_values-requires c κs =
+    (c.requires.0.opened, rw c.in-Made.is at c.call.ensures.holding)
 
-returns : tie.Need-returns
+returns-in-Made : tie.Need-returns-in-Made
 unfolding landed resumed
-returns c =
-    let a = c.before.before.before.before.before.before.before.before.before.before.before.before.before.before.before.before.before.before.before.before.before.before.before.args in
-    progress_as c.before.before.before.before.return-values.ensures
-    (start_turn _ a.f a.args.now a.frames.now a.values.now _ (rw c.before.before.before.before.before.before.before.before.top.given.1 at c.before.before.before.before.before.before.before.before.before.before.before.before.before.before.call.ensures.turned))
+returns-in-Made c =
+    let a = c.args in
+    progress_as c.return_values.ensures
+    (start_turn _ a.f a.args.now a.frames.now a.values.now _ (rw c.in-Made.is at c.call.ensures.turned))
 
-returns-2 : tie.Need-returns-2
+returns-in-Failed : tie.Need-returns-in-Failed
 unfolding landed
-returns-2 c =
-    let a = c.before.before.before.before.before.before.before.before.before.before.before.before.before.before.before.before.args in
+returns-in-Failed c =
+    let a = c.args in
     record {
-      progressed = start_turn _ a.f a.args.now a.frames.now a.values.now _ (rw c.before.ending.given.1 at c.before.before.before.before.before.before.before.call.ensures.turned);
+      progressed = start_turn _ a.f a.args.now a.frames.now a.values.now _ (rw c.in-Failed.is at c.call.ensures.turned);
       onward = tt;
     }
 
 pub start_spec : {M : Type 1} → statement M
 start_spec =
     tie.close
-    (tie.spec (λ c κs. search rules) (λ c. search rules) return-values-requires (λ c. search rules)
-    (λ c. search rules) (λ c. search rules) returns (λ c. search rules) (λ c. search rules) returns-2)
+    (tie.spec (λ c κs. search rules) (λ c. search rules) return_values-requires (λ c. search rules)
+    (λ c. search rules) (λ c. search rules) returns-in-Made (λ c. search rules) (λ c. search rules) returns-in-Failed)

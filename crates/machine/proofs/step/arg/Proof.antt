@@ -16,32 +16,31 @@ use Rattle.machine.proofs.Steps.{steps_as}
 use Rattle.machine.proofs.step.arg.Statement.{statement}
 use Rattle.machine.proofs.step.arg.Tie as tie
 
-argument-requires : tie.Need-argument-requires
-argument-requires c κs =
-    let p = c.before.before.before.before.requires in
+argument-v-requires : tie.Need-argument-v-requires
+argument-v-requires c κs =
+    let p = c.requires in
     ((numbers_of (held_of p.1.0)).frame.few, omega (arith, arity_few _ (wellformed_of p.0) _ _ _ p.1.0, p.1.1))
 
 -- what is read is the frame's argument
-reads : (c : tie.After-argument)
-    → let a = c.before.before.before.before.before.args in
+reads : (c : tie.After-argument-v)
+    → let a = c.args in
     let M = model_of a.bytes.now in
-    (c.argument.result ≡ get_or (frame_of M a.frames.now a.values.now a.top).args a.place 0) × (c.argument.result < M.classes)
+    (c.argument-v.result ≡ get_or (frame_of M a.frames.now a.values.now a.top).args a.place 0) × (c.argument-v.result < M.classes)
 reads c =
-    let p = c.before.before.before.before.before.requires in
-    rw c.argument.ensures (argument_read _ (wellformed_of p.0) _ _ _ p.1.0 _ p.1.1)
+    let p = c.requires in
+    rw c.argument-v.ensures (argument_read _ (wellformed_of p.0) _ _ _ p.1.0 _ p.1.1)
 
 put-requires : tie.Need-put-requires
-put-requires c κs = let p = c.before.before.before.before.before.before.before.requires in (p.0, (p.1.0, omega (arith, (reads c.before.before).1, counts_of p.0)))
+put-requires c κs = let p = c.requires in (p.0, (p.1.0, omega (arith, (reads c.before.before).1, counts_of p.0)))
 
 returns : tie.Need-returns
 returns c =
-    let g = c.before.before.before.before.before.before.before.before.before.before.before.before in
-    let a = g.args in
+    let a = c.args in
     let M = model_of a.bytes.now in
     let top = frame_of M a.frames.now a.values.now a.top in
-    steps_as c.before.before.before.before.put.ensures
+    steps_as c.put.ensures
     (ap (λ (v : ℕ). made (after (split M top) (v ∷ top.stack)) (callers_of M a.frames.now a.values.now a.top)) (reads c.before.before.before.before.before.before.before).0
-    ∙ sym (arg_puts M (wellformed_of g.requires.0) _ _ _ g.requires.1.0 a.place))
+    ∙ sym (arg_puts M (wellformed_of c.requires.0) _ _ _ c.requires.1.0 a.place))
 
 pub arg_spec : {M : Type 1} → statement M
-arg_spec = tie.close (tie.spec argument-requires put-requires (λ c. search rules) (λ c. search rules) returns)
+arg_spec = tie.close (tie.spec argument-v-requires put-requires (λ c. search rules) (λ c. search rules) returns)

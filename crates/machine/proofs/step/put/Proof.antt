@@ -10,21 +10,20 @@ use Rattle.machine.proofs.step.put.Tie as tie
 
 pass-requires : tie.Need-pass-requires
 pass-requires c κs =
-    let p = c.before.before.before.before.requires in
+    let p = c.requires in
     ((numbers_of (held_of p.1.0)).frame, next_short _ (wellformed_of p.0) _ _ _ p.1.0)
 
 push-requires : tie.Need-push-requires
 push-requires c κs =
-    let p = c.before.before.before.before.before.before.before.before.before.requires in
+    let p = c.requires in
     let w = wellformed_of p.0 in
-    let r = put_room _ w _ _ _ p.1.0 _ c.before.before.before.before.pass.ensures in
+    let r = put_room _ w _ _ _ p.1.0 _ c.pass.ensures in
     (r.frame, (r.stack, (r.height, omega (arith, p.1.1, counts_of p.0, w.classes_limit))))
 
 returns : tie.Need-returns
 returns c =
-    let s = c.before.before.before.before.before.before.before.before.before.before.before.before.before.before in
-    put_made _ (wellformed_of s.requires.0) _ _ s.args.top s.requires.1.0 s.args.v (omega (arith, s.requires.1.1, counts_of s.requires.0)) _ _ _
-    c.before.before.before.before.before.before.before.before.before.pass.ensures c.before.before.before.before.push.ensures.0 c.before.before.before.before.push.ensures.1
+    put_made _ (wellformed_of c.requires.0) _ _ c.args.top c.requires.1.0 c.args.v (omega (arith, c.requires.1.1, counts_of c.requires.0)) _ _ _
+    c.pass.ensures c.push.ensures.0 c.push.ensures.1
 
 pub put_spec : {M : Type 1} → statement M
 put_spec = tie.close (tie.spec pass-requires push-requires (λ c. search rules) (λ c. search rules) returns)

@@ -19,80 +19,80 @@ use Rattle.machine.proofs.Steps.{steps_as}
 use Rattle.machine.proofs.step.step.Statement.{statement}
 use Rattle.machine.proofs.step.step.Tie as tie
 
-instruction-requires : tie.Need-instruction-requires
-instruction-requires c κs =
-    let p = c.before.before.before.before.before.before.before.before.before.requires in
-    let m = c.before.before.method.ensures in
-    (p.0.opened, (omega (arith, m, (numbers_of (held_of p.1.1)).method_present, counts_of p.0.opened), rw (m, c.next.ensures) (left_of p.1.1)))
+instruction-i-requires : tie.Need-instruction-i-requires
+instruction-i-requires c κs =
+    let p = c.requires in
+    let m = c.method-m.ensures in
+    (p.0.opened, (omega (arith, m, (numbers_of (held_of p.1.1)).method_present, counts_of p.0.opened), rw (m, c.next-at.ensures) (left_of p.1.1)))
 
 -- the instruction read is the frame's next, and its operand names what is there
-fetched : (c : tie.After-instruction)
-    → let a = c.before.before.before.before.before.before.before.before.before.before.args in
+fetched : (c : tie.After-instruction-i)
+    → let a = c.args in
     let M = model_of a.bytes.now in
-    (instr c.instruction.result ≡ next_of M a.frames.now a.top)
-    × (operand_rule M (M.arity (M.function (method_at a.frames.now a.top))) (instr c.instruction.result) ≡ true)
+    (instr c.instruction-i.result ≡ next_of M a.frames.now a.top)
+    × (operand_rule M (M.arity (M.function (method_at a.frames.now a.top))) (instr c.instruction-i.result) ≡ true)
 fetched c =
-    let M = model_of c.before.before.before.before.before.before.before.before.before.before.args.bytes.now in
-    let m = c.before.before.before.method.ensures in
-    let r = c.instruction.ensures in (
-      r.0 ∙ ap₂ (λ (x : ℕ) (y : ℕ). get_or (M.body x) y (arg 0)) m c.before.next.ensures,
-      subst (λ (x : ℕ). operand_rule M (M.arity (M.function x)) (instr c.instruction.result) ≡ true) m r.1,
+    let M = model_of c.args.bytes.now in
+    let m = c.method-m.ensures in
+    let r = c.instruction-i.ensures in (
+      r.0 ∙ ap₂ (λ (x : ℕ) (y : ℕ). get_or (M.body x) y (arg 0)) m c.next-at.ensures,
+      subst (λ (x : ℕ). operand_rule M (M.arity (M.function x)) (instr c.instruction-i.result) ≡ true) m r.1,
     )
 
-below-arg : (c : tie.After-i)
-    → let a = c.before.before.before.before.before.before.before.before.before.before.before.before.args in let M = model_of a.bytes.now in c.i.given.0.0 < M.arity (M.function (method_at a.frames.now a.top))
+below_arg : (c : tie.In-Arg)
+    → let a = c.args in let M = model_of a.bytes.now in c.in-Arg.place < M.arity (M.function (method_at a.frames.now a.top))
 unfolding instr operand_rule
-below-arg c = ltb-true _ _ (rw c.i.given.1 at (fetched c.before.before).1)
+below_arg c = ltb-true _ _ (rw c.in-Arg.is at (fetched c.before).1)
 
 arg-requires : tie.Need-arg-requires
-arg-requires c κs = let p = c.before.before.before.before.before.before.before.before.before.before.before.before.before.before.before.requires in (p.0.opened, (p.1.1, below-arg c.before.before.before))
+arg-requires c κs = let p = c.requires in (p.0.opened, (p.1.1, below_arg c.before.before))
 
-below_new : (c : tie.After-i2) → c.i2.given.0.0 < (model_of c.before.before.before.before.before.before.before.before.before.before.before.before.args.bytes.now).classes
+below_new : (c : tie.In-New) → c.in-New.c < (model_of c.args.bytes.now).classes
 unfolding instr operand_rule
-below_new c = ltb-true _ _ (rw c.i2.given.1 at (fetched c.before.before).1)
+below_new c = ltb-true _ _ (rw c.in-New.is at (fetched c.before).1)
 
 new-requires : tie.Need-new-requires
-new-requires c κs = let p = c.before.before.before.before.before.before.before.before.before.before.before.before.before.before.before.requires in (p.0.opened, (p.1.1, omega (arith, below_new c.before.before.before, counts_of p.0.opened)))
+new-requires c κs = let p = c.requires in (p.0.opened, (p.1.1, omega (arith, below_new c.before.before, counts_of p.0.opened)))
 
-below-send : (c : tie.After-i3) → c.i3.given.0.0 < (model_of c.before.before.before.before.before.before.before.before.before.before.before.before.args.bytes.now).functions
+below_send : (c : tie.In-Send) → c.in-Send.f < (model_of c.args.bytes.now).functions
 unfolding instr operand_rule
-below-send c = ltb-true _ _ (rw c.i3.given.1 at (fetched c.before.before).1)
+below_send c = ltb-true _ _ (rw c.in-Send.is at (fetched c.before).1)
 
 send-requires : tie.Need-send-requires
-send-requires c κs = let p = c.before.before.before.before.before.before.before.before.before.before.before.before.before.before.before.requires in (p.0, (p.1.0, (p.1.1, omega (arith, below-send c.before.before.before, counts_of p.0.opened))))
+send-requires c κs = let p = c.requires in (p.0, (p.1.0, (p.1.1, omega (arith, below_send c.before.before, counts_of p.0.opened))))
 
 -- the turn of the instruction read is that of the frame's next
-next-turn : (c : tie.After-instruction) (i : Instruction) → c.instruction.result ≡ i
-    → let a = c.before.before.before.before.before.before.before.before.before.before.args in
+next_turn : (c : tie.After-instruction-i) (i : Instruction) → c.instruction-i.result ≡ i
+    → let a = c.args in
     let M = model_of a.bytes.now in
     turn_at M a.frames.now a.values.now a.top (instr i) ≡ turn_at M a.frames.now a.values.now a.top (next_of M a.frames.now a.top)
-next-turn c i e =
-    let a = c.before.before.before.before.before.before.before.before.before.before.args in
+next_turn c i e =
+    let a = c.args in
     ap (turn_at (model_of a.bytes.now) a.frames.now a.values.now a.top) (ap instr (sym e) ∙ (fetched c).0)
 
-returns : tie.Need-returns
+returns-in-Arg : tie.Need-returns-in-Arg
 unfolding instr
-returns c = steps_as c.before.before.before.before.arg.ensures (next-turn c.before.before.before.before.before.before.before.before.before.before _ c.before.before.before.before.before.before.before.before.i.given.1)
+returns-in-Arg c = steps_as c.arg.ensures (next_turn c.before.before.before.before.before.before.before.before _ c.in-Arg.is)
 
-returns-2 : tie.Need-returns-2
+returns-in-New : tie.Need-returns-in-New
 unfolding instr
-returns-2 c = steps_as c.before.before.before.before.new.ensures (next-turn c.before.before.before.before.before.before.before.before.before.before _ c.before.before.before.before.before.before.before.before.i2.given.1)
+returns-in-New c = steps_as c.new.ensures (next_turn c.before.before.before.before.before.before.before.before _ c.in-New.is)
 
-returns-3 : tie.Need-returns-3
+returns-in-Send : tie.Need-returns-in-Send
 unfolding instr
-returns-3 c = steps_as c.before.before.before.before.send.ensures (next-turn c.before.before.before.before.before.before.before.before.before.before _ c.before.before.before.before.before.before.before.before.i3.given.1)
+returns-in-Send c = steps_as c.send.ensures (next_turn c.before.before.before.before.before.before.before.before _ c.in-Send.is)
 
-returns-4 : tie.Need-returns-4
+returns-in-Resend : tie.Need-returns-in-Resend
 unfolding instr
-returns-4 c = steps_as c.before.before.before.before.resend.ensures (next-turn c.before.before.before.before.before.before.before.before.before _ c.before.before.before.before.before.before.before.enum_told.given.1)
+returns-in-Resend c = steps_as c.resend.ensures (next_turn c.before.before.before.before.before.before.before.before _ c.in-Resend.is)
 
 pub step_spec : {M : Type 1} → statement M
 step_spec =
     tie.close
     (tie.spec
-    (λ c κs. (numbers_of (held_of c.before.before.before.before.before.before.requires.1.1)).frame)
-    (λ c κs. (numbers_of (held_of c.before.before.before.before.before.before.before.before.requires.1.1)).frame)
-    instruction-requires
+    (λ c κs. (numbers_of (held_of c.requires.1.1)).frame)
+    (λ c κs. (numbers_of (held_of c.requires.1.1)).frame)
+    instruction-i-requires
     (λ c. search rules)
     arg-requires
     (λ c. search rules)
@@ -100,16 +100,16 @@ step_spec =
     (λ c. search rules)
     send-requires
     (λ c. search rules)
-    (λ c κs. let p = c.before.before.before.before.before.before.before.before.before.before.before.before.before.before.requires in (p.0, (p.1.0, p.1.1)))
+    (λ c κs. let p = c.requires in (p.0, (p.1.0, p.1.1)))
     (λ c. search rules)
     (λ c. search rules)
-    returns
+    returns-in-Arg
     (λ c. search rules)
     (λ c. search rules)
-    returns-2
+    returns-in-New
     (λ c. search rules)
     (λ c. search rules)
-    returns-3
+    returns-in-Send
     (λ c. search rules)
     (λ c. search rules)
-    returns-4)
+    returns-in-Resend)

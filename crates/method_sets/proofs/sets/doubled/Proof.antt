@@ -6,13 +6,13 @@ use Rattle.rules.specs.Bits.{bit}
 use Rattle.method_sets.proofs.sets.doubled.Statement.{statement}
 use Rattle.method_sets.proofs.sets.doubled.Tie as tie
 
+returns-then-low : tie.Need-returns-then-low
+unfolding bit
+returns-then-low c = rw c.if-low.true
+
 returns : tie.Need-returns
 unfolding bit
-returns c = rw c.if1.true
-
-returns-2 : tie.Need-returns-2
-unfolding bit
-returns-2 c = rw c.if1.false (omega arith)
+returns c = rw c.if-low.false (omega arith)
 
 pub doubled_spec : {M : Type 1} → statement M
-doubled_spec = tie.close (tie.spec (λ c. search rules) (λ c. search rules) returns (λ c. search rules) returns-2)
+doubled_spec = tie.close (tie.spec (λ c. search rules) (λ c. search rules) returns-then-low (λ c. search rules) returns)

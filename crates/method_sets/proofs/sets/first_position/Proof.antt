@@ -12,49 +12,47 @@ use Rattle.method_sets.proofs.Words.{lowest_position, before_lowest}
 use Rattle.method_sets.proofs.sets.first_position.Statement.{statement}
 use Rattle.method_sets.proofs.sets.first_position.Tie as tie
 
-abbrev invariant-loop : tie.invariant-loop
-invariant-loop set w₀ w = (w ≤ set_words) × ((i : ℕ) → i < 64 * w → in_set set 0 i ≡ false)
+abbrev invariant-loop-w : tie.invariant-loop-w
+invariant-loop-w set w₀ w = (w ≤ set_words) × ((i : ℕ) → i < 64 * w → in_set set 0 i ≡ false)
 
-abbrev decreases-loop : tie.decreases-loop
-decreases-loop set w₀ w = set_words - w
+abbrev decreases-loop-w : tie.decreases-loop-w
+decreases-loop-w set w₀ w = set_words - w
 
-cast-bit : tie.Need-overflow-cast-bit invariant-loop decreases-loop
-cast-bit c = omega (arith, trailing_le 64 (get_or c.before.before.before.args.set.now c.before.before.loop.w 0))
+overflow_cast-bit : tie.Need-overflow_cast-bit invariant-loop-w decreases-loop-w
+overflow_cast-bit c = omega (arith, trailing_le 64 (get_or c.args.set.now c.loop-w.w 0))
 
-returns : tie.Need-returns invariant-loop decreases-loop
-returns c =
-    let l = c.before.before.before in
-    let set = l.before.args.set.now in
+returns-then-bit-lt-WORD_BITS : tie.Need-returns-then-bit-lt-WORD_BITS invariant-loop-w decreases-loop-w
+returns-then-bit-lt-WORD_BITS c =
+    let set = c.args.set.now in
     record {
-      limit = omega (arith, l.loop.invariant.0);
-      member = λ h. lowest_position set l.loop.w c.if1.true;
-      before = before_lowest set l.loop.w l.loop.invariant.1;
+      limit = omega (arith, c.loop-w.invariant.0);
+      member = λ h. lowest_position set c.loop-w.w c.if-bit-lt-WORD_BITS.true;
+      before = before_lowest set c.loop-w.w c.loop-w.invariant.1;
     }
 
-loop-again : tie.Need-loop-preserved invariant-loop decreases-loop
-loop-again c =
-    let l = c.before.before.before in
-    (omega arith, λ i h. before_lowest l.before.args.set.now l.loop.w l.loop.invariant.1 i (omega arith))
+loop-w-preserved : tie.Need-loop-w-preserved invariant-loop-w decreases-loop-w
+loop-w-preserved c =
+    (omega arith, λ i h. before_lowest c.args.set.now c.loop-w.w c.loop-w.invariant.1 i (omega arith))
 
-returns-2 : tie.Need-returns-2 invariant-loop decreases-loop
-returns-2 c =
-    let l = c.before.loop in
+returns : tie.Need-returns invariant-loop-w decreases-loop-w
+returns c =
+    let l = c.loop-w in
     record { limit = omega arith; member = λ h. absurd (omega arith); before = λ i h. l.invariant.1 i (omega arith) }
 
 pub first_position_spec : {M : Type 1} → statement M
 first_position_spec =
     tie.close
     (tie.spec
-    invariant-loop
-    decreases-loop
+    invariant-loop-w
+    decreases-loop-w
     (λ c. (omega arith, λ i h. absurd (omega arith)))
     (λ c. omega arith)
     (λ c. omega arith)
-    cast-bit
+    overflow_cast-bit
     (λ c. omega arith)
     (λ c. omega arith)
-    returns
+    returns-then-bit-lt-WORD_BITS
     (λ c. omega arith)
     (λ c. omega arith)
-    loop-again
-    returns-2)
+    loop-w-preserved
+    returns)

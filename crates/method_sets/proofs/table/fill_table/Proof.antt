@@ -12,29 +12,25 @@ use Rattle.method_sets.proofs.Rows.{column_room, column_long, column_classes, ta
 use Rattle.method_sets.proofs.table.fill_table.Statement.{statement}
 use Rattle.method_sets.proofs.table.fill_table.Tie as tie
 
-abbrev invariant-loop : tie.invariant-loop
-invariant-loop bytes b scratch order stated table₀ methods place₀ table place =
+abbrev invariant-loop-place : tie.invariant-loop-place
+invariant-loop-place bytes b scratch order stated table₀ methods place₀ table place =
     (place ≤ places) × TabledTo stated (model_of bytes) order table place
 
-abbrev decreases-loop : tie.decreases-loop
-decreases-loop bytes b scratch order stated table₀ methods place₀ table place = places - place
+abbrev decreases-loop-place : tie.decreases-loop-place
+decreases-loop-place bytes b scratch order stated table₀ methods place₀ table place = places - place
 
-fill-place-requires : tie.Need-fill-place-requires invariant-loop decreases-loop
-fill-place-requires c κs =
-    let u = c.before.before in
-    let l = u.before.before in
-    let p = l.before.before.before.requires.0 in
-    (filled_long p.filled, ((placed_of p.opened).classes_limit, (omega arith, (column_classes p.opened u.column.ensures, l.loop.invariant.1.long))))
+fill_place-requires : tie.Need-fill_place-requires invariant-loop-place decreases-loop-place
+fill_place-requires c κs =
+    let p = c.requires.0 in
+    (filled_long p.filled, ((placed_of p.opened).classes_limit, (omega arith, (column_classes p.opened c.column-classes.ensures, c.loop-place.invariant.1.long))))
 
-loop-again : tie.Need-loop-preserved invariant-loop decreases-loop
-loop-again c =
-    let u = c.before.before.before in
-    let l = u.before.before in
-    (omega arith, tabled_more l.before.before.before.requires.0 u.column.ensures l.loop.invariant.1 c.fill-place.ensures)
+loop-place-preserved : tie.Need-loop-place-preserved invariant-loop-place decreases-loop-place
+loop-place-preserved c =
+    (omega arith, tabled_more c.requires.0 c.column-classes.ensures c.loop-place.invariant.1 c.fill_place.ensures)
 
-returns : tie.Need-returns invariant-loop decreases-loop
+returns : tie.Need-returns invariant-loop-place decreases-loop-place
 returns c =
-    let l = c.before.loop in
+    let l = c.loop-place in
     let all : l.place ≡ places = omega arith in
     rw all at l.invariant.1
 
@@ -42,14 +38,14 @@ pub fill_table_spec : {M : Type 1} → statement M
 fill_table_spec =
     tie.close
     (tie.spec
-    invariant-loop
-    decreases-loop
-    (λ c. (omega arith, c.before.before.requires.1.1))
-    (λ c κs. let p = c.before.before.before.before.requires in (p.0.opened, (p.1.0, omega arith)))
-    (λ c. column_room c.before.before.before.before.before.requires.0.opened c.column.ensures)
-    (λ c. sym (column_long c.before.before.before.before.before.before.requires.0.opened c.before.column.ensures))
-    fill-place-requires
+    invariant-loop-place
+    decreases-loop-place
+    (λ c. (omega arith, c.requires.1.1))
+    (λ c κs. let p = c.requires in (p.0.opened, (p.1.0, omega arith)))
+    (λ c. column_room c.requires.0.opened c.column-classes.ensures)
+    (λ c. sym (column_long c.requires.0.opened c.column-classes.ensures))
+    fill_place-requires
     (λ c. omega arith)
     (λ c. omega arith)
-    loop-again
+    loop-place-preserved
     returns)

@@ -13,37 +13,37 @@ use Rattle.method_sets.proofs.Words.{set_words_lem}
 use Rattle.method_sets.proofs.table.methods_of.Statement.{statement}
 use Rattle.method_sets.proofs.table.methods_of.Tie as tie
 
-abbrev invariant-loop : tie.invariant-loop
-invariant-loop bytes b order f set₀ w₀ set w =
+abbrev invariant-loop-w : tie.invariant-loop-w
+invariant-loop-w bytes b order f set₀ w₀ set w =
     (w ≤ set_words) × (length set ≡ set_words) × ((v : ℕ) → v < w → WordOf (method_of (model_of bytes) order f) (64 * v) (get_or set v 0))
 
-abbrev decreases-loop : tie.decreases-loop
-decreases-loop bytes b order f set₀ w₀ set w = set_words - w
+abbrev decreases-loop-w : tie.decreases-loop-w
+decreases-loop-w bytes b order f set₀ w₀ set w = set_words - w
 
-loop-again : tie.Need-loop-preserved invariant-loop decreases-loop
-loop-again c =
-    let l = c.before.before.loop in
-    let a = c.before.before.before.before.args in (
+loop-w-preserved : tie.Need-loop-w-preserved invariant-loop-w decreases-loop-w
+loop-w-preserved c =
+    let l = c.loop-w in
+    let a = c.args in (
       omega arith,
       length-set l.set l.w _ ∙ l.invariant.1,
       stored_more (λ v x. WordOf (method_of (model_of a.bytes.now) a.order.now a.f) (64 * v) x) l.set l.w _ (omega (arith, l.invariant.1)) l.invariant.2 c.word_of.ensures,
     )
 
-returns : tie.Need-returns invariant-loop decreases-loop
-returns c = set_words_lem _ 0 _ (λ w h. simp zero-add (c.before.loop.invariant.2 w (omega arith)))
+returns : tie.Need-returns invariant-loop-w decreases-loop-w
+returns c = set_words_lem _ 0 _ (λ w h. simp zero-add (c.loop-w.invariant.2 w (omega arith)))
 
 pub methods_of_spec : {M : Type 1} → statement M
 methods_of_spec =
     tie.close
     (tie.spec
-    invariant-loop
-    decreases-loop
+    invariant-loop-w
+    decreases-loop-w
     (λ c. (omega arith, refl, below_none _))
     (λ c. omega arith)
-    (λ c κs. let p = c.before.before.before.requires in (p.0, (p.1, omega arith)))
+    (λ c κs. let p = c.requires in (p.0, (p.1, omega arith)))
     (λ c. omega arith)
-    (λ c. omega (arith, c.before.before.loop.invariant.1))
+    (λ c. omega (arith, c.loop-w.invariant.1))
     (λ c. omega arith)
     (λ c. omega arith)
-    loop-again
+    loop-w-preserved
     returns)

@@ -15,48 +15,43 @@ use Rattle.method_sets.proofs.Words.{PackedFrom, packed_none, packed_room, packe
 use Rattle.method_sets.proofs.table.word_of.Statement.{statement}
 use Rattle.method_sets.proofs.table.word_of.Tie as tie
 
-abbrev invariant-loop : tie.invariant-loop
-invariant-loop bytes b order f start bits₀ i₀ bits i = PackedFrom (method_of (model_of bytes) order f) b.methods start i bits
+abbrev invariant-loop-i : tie.invariant-loop-i
+invariant-loop-i bytes b order f start bits₀ i₀ bits i = PackedFrom (method_of (model_of bytes) order f) b.methods start i bits
 
-abbrev decreases-loop : tie.decreases-loop
-decreases-loop bytes b order f start bits₀ i₀ bits i = i - start
+abbrev decreases-loop-i : tie.decreases-loop-i
+decreases-loop-i bytes b order f start bits₀ i₀ bits i = i - start
 
-loop-holds : tie.Need-loop-init invariant-loop decreases-loop
+loop-i-init : tie.Need-loop-i-init invariant-loop-i decreases-loop-i
 unfolding method_of
-loop-holds c =
-    let s = c.before.before in
-    packed_none c.word-end.ensures (λ j h. rw (le-ltb j (model_of s.args.bytes.now).methods (omega (arith, (counts_of s.requires.0).methods))))
+loop-i-init c =
+    packed_none c.word_end-i.ensures (λ j h. rw (le-ltb j (model_of c.args.bytes.now).methods (omega (arith, (counts_of c.requires.0).methods))))
 
 -- position i - 1 is one of the order
-inside : (c : tie.In-loop invariant-loop decreases-loop) → let l = c.before in
-    let b = l.before.before.before.args.b in (l.loop.i - 1 < b.methods) × (b.methods ≤ max_methods)
+inside : (c : tie.In-loop-i invariant-loop-i decreases-loop-i) → let b = c.args.b in (c.loop-i.i - 1 < b.methods) × (b.methods ≤ max_methods)
 inside c =
-    let l = c.before in
-    (omega (arith, l.loop.invariant.within (omega arith)), (placed_of l.before.before.before.requires.0).methods_limit)
+    (omega (arith, c.loop-i.invariant.within (omega arith)), (placed_of c.requires.0).methods_limit)
 
-loop-again : tie.Need-loop-preserved invariant-loop decreases-loop
+loop-i-preserved : tie.Need-loop-i-preserved invariant-loop-i decreases-loop-i
 unfolding method_at
-loop-again c =
-    let l = c.before.before.before.before in
-    let s = l.before.before.before in
-    let a = s.args in
-    let counts = counts_of s.requires.0 in
-    let test = of_function (model_of a.bytes.now) a.order.now a.f (l.loop.i - 1) (omega (arith, inside c.before.before.before)) in
-    rw c.doubled.ensures (packed_next l.loop.invariant (omega arith) _ (ap (λ (g : ℕ). eqb g a.f) c.before.function.ensures.0 ∙ sym test))
+loop-i-preserved c =
+    let a = c.args in
+    let counts = counts_of c.requires.0 in
+    let test = of_function (model_of a.bytes.now) a.order.now a.f (c.loop-i.i - 1) (omega (arith, inside c.before.before.before.before)) in
+    rw c.doubled-bits.ensures (packed_next c.loop-i.invariant (omega arith) _ (ap (λ (g : ℕ). eqb g a.f) c.function.ensures.0 ∙ sym test))
 
 pub word_of_spec : {M : Type 1} → statement M
 word_of_spec =
     tie.close
     (tie.spec
-    invariant-loop
-    decreases-loop
-    (λ c κs. c.before.requires.1.1)
-    loop-holds
+    invariant-loop-i
+    decreases-loop-i
+    (λ c κs. c.requires.1.1)
+    loop-i-init
     (λ c. omega arith)
     (λ c. omega (arith, inside c))
-    (λ c. omega (arith, inside c))
-    (λ c κs. let p = c.before.before.before.before.before.requires in (p.0, method_present p.0 p.1.0 _ (inside c.before).0))
-    (λ c κs. packed_room c.before.before.before.loop.invariant (omega arith))
+    (λ c. omega (arith, inside c.before))
+    (λ c κs. let p = c.requires in (p.0, method_present p.0 p.1.0 _ (inside c.before.before).0))
+    (λ c κs. packed_room c.loop-i.invariant (omega arith))
     (λ c. omega arith)
-    loop-again
-    (λ c. packed_all c.before.loop.invariant (omega arith)))
+    loop-i-preserved
+    (λ c. packed_all c.loop-i.invariant (omega arith)))

@@ -13,34 +13,34 @@ use Rattle.overriding.proofs.suits.in_arg_type.Tie as tie
 
 under-requires : tie.Need-under-requires
 under-requires c κs =
-    let p = c.before.before.before.before.requires in
+    let p = c.requires in
     asked p.0 _ _ (omega arith) p.1.1.1
 
 -- whether the specialiser is under the class
 special : (c : tie.After-under)
-    → let a = c.before.before.before.before.before.args in
+    → let a = c.args in
     let M = model_of a.bytes.now in
     c.under.result ≡ subclass M (get_or (M.specialisers a.m) a.place 0) a.c
 special c =
-    let p = c.before.before.before.before.before.requires in
-    let x = c.before.before.specialiser.ensures in
+    let p = c.requires in
+    let x = c.specialiser-special_class.ensures in
     answered p.0 c.under.ensures x.1 p.1.1.1 x.0 refl
 
-returns : tie.Need-returns
-returns c = sym (by_specialiser _ _ _ _ (sym (special c.before) ∙ c.if1.true))
+returns-then-under : tie.Need-returns-then-under
+returns-then-under c = sym (by_specialiser _ _ _ _ (sym (special c.before) ∙ c.if-under.true))
 
 under-requires-2 : tie.Need-under-requires-2
 under-requires-2 c κs =
-    let p = c.before.before.before.before.before.before.requires in
+    let p = c.requires in
     asked p.0 _ _ (omega arith) p.1.1.1
 
-returns-2 : tie.Need-returns-2
-returns-2 c =
+returns : tie.Need-returns
+returns c =
     let s = c.before.before in
-    let p = s.before.before.before.before.before.requires in
-    let x = s.before.declared.ensures in
-    answered p.0 c.under2.ensures (omega arith) p.1.1.1 x.0 refl
-    ∙ sym (by_declared_lem _ _ _ _ (sym (special s) ∙ c.before.if1.false))
+    let p = s.requires in
+    let x = s.declared-declared_class.ensures in
+    answered p.0 c.under-2.ensures (omega arith) p.1.1.1 x.0 refl
+    ∙ sym (by_declared_lem _ _ _ _ (sym (special s) ∙ c.if-under.false))
 
 pub in_arg_type_spec : {M : Type 1} → statement M
-in_arg_type_spec = tie.close (tie.spec (λ c κs. search rules) (λ c κs. search rules) under-requires returns under-requires-2 returns-2)
+in_arg_type_spec = tie.close (tie.spec (λ c κs. search rules) (λ c κs. search rules) under-requires returns-then-under under-requires-2 returns)

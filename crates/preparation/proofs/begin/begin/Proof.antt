@@ -1,7 +1,7 @@
 -- `preparation::begin::begin` meets its contract: a refusal leaves the scratch as it was, and otherwise it holds the matrix.
 -- Assumes nothing.
 use borrow.Author.Rules.{rules}
-use mathlib.Core.Path.{◌≡◌, sym, ◌∙◌}
+use mathlib.Core.Path.{◌≡◌, ◌∙◌}
 use mathlib.Core.Bool.{false≢true}
 use mathlib.Core.List.{List}
 use Prim.Native.Nat.{ℕ}
@@ -13,44 +13,35 @@ use Rattle.preparation.proofs.Called.{unopened, short, enough, prepared_by}
 use Rattle.preparation.proofs.begin.begin.Statement.{statement}
 use Rattle.preparation.proofs.begin.begin.Tie as tie
 
-returns : tie.Need-returns
-returns c =
-    let o = c.before.before.before in
-    let g = o.before.before.before in
-    let e = (rw c.finding.ensures at o.«open».ensures).answer in
-    let r = unopened g.args.bundle.now g.args.scratch.now e in
+returns-in_default : tie.Need-returns-in_default
+returns-in_default c =
+    let e = (rw c.finding.ensures at c.open-opening.ensures).answer in
+    let r = unopened c.args.bundle.now c.args.scratch.now e in
     record { said = r.0; filled = r.1; prepared = λ t q. absurd (false≢true (cc)) }
 
-returns-2 : tie.Need-returns-2
-returns-2 c =
-    let k = c.before.before in
-    let o = k.before.before in
-    let g = o.before.before.before in
-    let e = (rw k.opening.given.1 at o.«open».ensures).answer in
-    let r = short g.args.bundle.now g.args.scratch.now e (search rules) in
+returns-then-scratch-lt-BYTES : tie.Need-returns-then-scratch-lt-BYTES
+returns-then-scratch-lt-BYTES c =
+    let e = (rw c.in-Opened.is at c.open-opening.ensures).answer in
+    let r = short c.args.bundle.now c.args.scratch.now e (search rules) in
     record { said = r.0; filled = r.1; prepared = λ t q. absurd (false≢true (cc)) }
 
 fill-requires : tie.Need-fill-requires
 fill-requires c κs =
-    let k = c.before.before.before in
-    (opened_of (rw k.opening.given.1 at k.before.before.«open».ensures), search rules)
+    (opened_of (rw c.in-Opened.is at c.open-opening.ensures), search rules)
 
 -- the same bundle
 same_opened : {b : List ℕ} {t u : Bundle} → Opened b t → Ready t ≡ Ready u → Opened b u
 same_opened {t = t} {u = u} o e = let same : t ≡ u = cc in rw same at o
 
-returns-3 : tie.Need-returns-3
-returns-3 c =
-    let k = c.before.before.before.before.before.before in
-    let o = k.before.before in
-    let g = o.before.before.before in
-    let answer = rw k.opening.given.1 at o.«open».ensures in
-    let fill = c.before.before.fill.ensures in
-    let r = enough g.args.bundle.now g.args.scratch.now answer.answer (search rules) in
+returns : tie.Need-returns
+returns c =
+    let answer = rw c.in-Opened.is at c.open-opening.ensures in
+    let fill = c.fill.ensures in
+    let r = enough c.args.bundle.now c.args.scratch.now answer.answer (search rules) in
     record {
       said = r.0;
       filled = fill ∙ r.1;
-      prepared = λ t q. rw fill (prepared_by g.args.bundle.now g.args.scratch.now (same_opened (opened_of answer) q) (search rules));
+      prepared = λ t q. rw fill (prepared_by c.args.bundle.now c.args.scratch.now (same_opened (opened_of answer) q) (search rules));
     }
 
 pub begin_spec : {M : Type 1} → statement M
@@ -60,9 +51,9 @@ begin_spec =
     (λ c κs. search rules)
     (λ c. search rules)
     (λ c. search rules)
-    (λ c κs. rw c.enum_told.given.1 tt)
-    returns
-    returns-2
+    (λ c κs. rw c.in_default.is tt)
+    returns-in_default
+    returns-then-scratch-lt-BYTES
     fill-requires
     (λ c. search rules)
-    returns-3)
+    returns)

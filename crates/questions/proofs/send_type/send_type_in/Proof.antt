@@ -12,47 +12,38 @@ use Rattle.questions.proofs.Answered.{type_short, type_absent, type_answered, li
 use Rattle.questions.proofs.send_type.send_type_in.Statement.{statement}
 use Rattle.questions.proofs.send_type.send_type_in.Tie as tie
 
-returns : tie.Need-returns
+returns-then-row-lt-ROW_BYTES : tie.Need-returns-then-row-lt-ROW_BYTES
 unfolding row_on
-returns c =
-    let a = c.before.before.before.before.args in
+returns-then-row-lt-ROW_BYTES c =
+    let a = c.args in
     rw (type_short (model_of a.bundle.now) a.send.function (tuple_of a.send) (length a.row.now) (search rules)) (refl, refl)
 
-returns-2 : tie.Need-returns-2
+returns-then-not-args : tie.Need-returns-then-not-args
 unfolding row_on
-returns-2 c =
-    let r = c.before.before in
-    let a = r.before.before.before.before.before.args in
-    rw (type_absent (model_of a.bundle.now) a.send.function (tuple_of a.send) (length a.row.now) (search rules) (sym r.classes-of.ensures.0 ∙ not-true _ c.if2.true)) (refl, refl)
+returns-then-not-args c =
+    let a = c.args in
+    rw (type_absent (model_of a.bundle.now) a.send.function (tuple_of a.send) (length a.row.now) (search rules) (sym c.classes_of-args.ensures.0 ∙ (not-true _ c.if-not-args.true))) (refl, refl)
 
-array-share-prefix-classes : tie.Need-array-share-prefix-classes
-array-share-prefix-classes c = let e = c.before in (e.before.before.classes-of.ensures.1.0 (not-false _ e.if2.false)).within
+slice_bounds-classes-end : tie.Need-slice_bounds-classes-end
+slice_bounds-classes-end c = (c.classes_of-args.ensures.1.0 ((not-false _ c.if-not-args.false))).within
 
-send-type-requires : tie.Need-send-type-requires
-send-type-requires c κs =
-    let e = c.before.before.before in
-    let r = e.before.before in
-    (r.before.before.before.before.before.requires, ((r.classes-of.ensures.1.0 (not-false _ e.if2.false)).arguments, search rules))
+send_type-requires : tie.Need-send_type-requires
+send_type-requires c κs =
+    (c.requires, ((c.classes_of-args.ensures.1.0 ((not-false _ c.if-not-args.false))).arguments, search rules))
 
-returns-3 : tie.Need-returns-3
-returns-3 c =
-    let t = c.before.before.before in
-    let e = t.before.before.before.before in
-    let r = e.before.before in
-    let a = r.before.before.before.before.before.args in
-    let sent = not-false _ e.if2.false in
-    rw (type_answered (model_of a.bundle.now) a.send.function (tuple_of a.send) (length a.row.now) (search rules) (sym r.classes-of.ensures.0 ∙ sent) (r.classes-of.ensures.1.0 sent))
-    ((licensed_blank _ t.send-type.ensures.0).0 c.if3.true, t.send-type.ensures.1)
+returns-then-send_type : tie.Need-returns-then-send_type
+returns-then-send_type c =
+    let a = c.args in
+    let sent = (not-false _ c.if-not-args.false) in
+    rw (type_answered (model_of a.bundle.now) a.send.function (tuple_of a.send) (length a.row.now) (search rules) (sym c.classes_of-args.ensures.0 ∙ sent) (c.classes_of-args.ensures.1.0 sent))
+    ((licensed_blank _ c.send_type.ensures.0).0 c.if-send_type.true, c.send_type.ensures.1)
 
-returns-4 : tie.Need-returns-4
-returns-4 c =
-    let t = c.before.before.before in
-    let e = t.before.before.before.before in
-    let r = e.before.before in
-    let a = r.before.before.before.before.before.args in
-    let sent = not-false _ e.if2.false in
-    rw (type_answered (model_of a.bundle.now) a.send.function (tuple_of a.send) (length a.row.now) (search rules) (sym r.classes-of.ensures.0 ∙ sent) (r.classes-of.ensures.1.0 sent))
-    ((licensed_blank _ t.send-type.ensures.0).1 c.if3.false, t.send-type.ensures.1)
+returns : tie.Need-returns
+returns c =
+    let a = c.args in
+    let sent = (not-false _ c.if-not-args.false) in
+    rw (type_answered (model_of a.bundle.now) a.send.function (tuple_of a.send) (length a.row.now) (search rules) (sym c.classes_of-args.ensures.0 ∙ sent) (c.classes_of-args.ensures.1.0 sent))
+    ((licensed_blank _ c.send_type.ensures.0).1 c.if-send_type.false, c.send_type.ensures.1)
 
 pub send_type_in_spec : {M : Type 1} → statement M
-send_type_in_spec = tie.close (tie.spec returns (λ c κs. search rules) returns-2 array-share-prefix-classes (λ c. sym (length-take-le _ _ (array-share-prefix-classes c.before))) send-type-requires (λ c. search rules) returns-3 (λ c. search rules) returns-4)
+send_type_in_spec = tie.close (tie.spec returns-then-row-lt-ROW_BYTES (λ c κs. search rules) returns-then-not-args slice_bounds-classes-end (λ c. sym (length-take-le _ _ (slice_bounds-classes-end c.before))) send_type-requires (λ c. search rules) returns-then-send_type (λ c. search rules) returns)

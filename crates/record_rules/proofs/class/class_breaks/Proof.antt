@@ -16,13 +16,13 @@ use Rattle.record_rules.proofs.Parts.{beq_true, beq_false}
 use Rattle.record_rules.proofs.class.class_breaks.Statement.{statement}
 use Rattle.record_rules.proofs.class.class_breaks.Tie as tie
 
-kind-holds : (c : tie.Else1) → let a = c.before.before.before.args in leb (kind_of a.bytes.now a.c) 1 ≡ true
-kind-holds c = rw (← c.before.kind.ensures) (le-leb _ _ c.if1.false)
+kind_holds : (c : tie.Else-kind-gt1) → let a = c.before.before.before.args in leb (kind_of a.bytes.now a.c) 1 ≡ true
+kind_holds c = rw (← c.before.kind.ensures) (le-leb _ _ c.if-kind-gt1.false)
 
-filler-holds : (c : tie.Else2)
+filler_holds : (c : tie.Else-filler-ne0)
     → let a = c.before.before.before.before.before.args in
     eqb (byte a.bytes.now (class_at a.bytes.now a.c + 1)) 0 ≡ true
-filler-holds c = rw (← c.before.filler.ensures) (eq-eqb _ _ c.if2.false)
+filler_holds c = rw (← c.before.filler.ensures) (eq-eqb _ _ c.if-filler-ne0.false)
 
 -- the list's place and its parents, in the words of the rule
 sequence : (c : tie.After-misplaced)
@@ -31,76 +31,76 @@ sequence : (c : tie.After-misplaced)
     ≡ not c.misplaced.result
 sequence c = turned c.misplaced.result (cc)
 
-parents : (c : tie.After-parents-break)
+parents : (c : tie.After-parents_break)
     → let a = c.before.before.before.before.before.before.before.before.before.before.before.args in
-    parents_rule a.c (parents_of a.bytes.now a.c) ≡ not c.parents-break.result
+    parents_rule a.c (parents_of a.bytes.now a.c) ≡ not c.parents_break.result
 unfolding parents_of
-parents c = turned c.parents-break.result (cc)
+parents c = turned c.parents_break.result (cc)
 
-returns : tie.Need-returns
+returns-then-kind-gt1 : tie.Need-returns-then-kind-gt1
 unfolding class_rule
-returns c = rw (← c.before.kind.ensures, lt-leb _ _ c.if1.true)
+returns-then-kind-gt1 c = rw (← c.before.kind.ensures, lt-leb _ _ c.if-kind-gt1.true)
 
-returns-2 : tie.Need-returns-2
+returns-then-filler-ne0 : tie.Need-returns-then-filler-ne0
 unfolding class_rule
-returns-2 c = rw (← c.before.filler.ensures, ne_eqb _ _ c.if2.true) (simp and-false)
+returns-then-filler-ne0 c = rw (← c.before.filler.ensures, ne_eqb _ _ c.if-filler-ne0.true) (simp and-false)
 
-returns-3 : tie.Need-returns-3
+returns-then-misplaced : tie.Need-returns-then-misplaced
 unfolding class_rule
-returns-3 c = rw (sequence c.before, c.if3.true) (simp and-false)
+returns-then-misplaced c = rw (sequence c.before, c.if-misplaced.true) (simp and-false)
 
-parents-break-requires : tie.Need-parents-break-requires
-parents-break-requires c κs =
+parents_break-requires : tie.Need-parents_break-requires
+parents_break-requires c κs =
     let e = c.before in
     let s = e.before.before.before.before.before.before.before.before.before in
-    omega (arith, s.requires.0.parent_end, sequence_fits _ _ _ _ _ _ (passed e.before.misplaced.ensures e.if3.false))
+    omega (arith, s.requires.0.parent_end, sequence_fits _ _ _ _ _ _ (passed e.before.misplaced.ensures e.if-misplaced.false))
 
-returns-4 : tie.Need-returns-4
+returns-then-parents_break : tie.Need-returns-then-parents_break
 unfolding class_rule
-returns-4 c =
+returns-then-parents_break c =
     let e = c.before.before.before in
     let d = e.before.before.before.before in
-    rw (kind-holds d.before.before, filler-holds d, sequence e.before, e.if3.false, parents c.before, c.if4.true)
+    rw (kind_holds d.before.before, filler_holds d, sequence e.before, e.if-misplaced.false, parents c.before, c.if-parents_break.true)
 
 -- what is left to ask where all other tests passed
-rest : (c : tie.Else4)
+rest : (c : tie.Else-parents_break)
     → let e = c.before.before.before in
     let a = e.before.before.before.before.before.before.before.before.before.args in
-    class_rule a.bytes.now a.c ≡ beq (eqb a.c 0) (eqb e.before.before.parent-count.result 0)
+    class_rule a.bytes.now a.c ≡ beq (eqb a.c 0) (eqb e.before.before.parent_count-size.result 0)
 unfolding class_rule
 rest c =
     let e = c.before.before.before in
     let d = e.before.before.before.before in
     rw (
-      kind-holds d.before.before,
-      filler-holds d,
+      kind_holds d.before.before,
+      filler_holds d,
       sequence e.before,
-      e.if3.false,
+      e.if-misplaced.false,
       parents c.before,
-      c.if4.false,
-      ← e.before.before.parent-count.ensures.0,
+      c.if-parents_break.false,
+      ← e.before.before.parent_count-size.ensures.0,
     )
 
-returns-5 : tie.Need-returns-5
-returns-5 c = rw (rest c.before, eq-eqb _ _ c.if5.true, beq_true (eqb c.before.before.before.before.before.before.parent-count.result 0))
+returns-then-c-eq0 : tie.Need-returns-then-c-eq0
+returns-then-c-eq0 c = rw (rest c.before, eq-eqb _ _ c.if-c-eq0.true, beq_true (eqb c.before.before.before.before.before.before.parent_count-size.result 0))
 
-returns-6 : tie.Need-returns-6
-returns-6 c = rw (rest c.before, ne_eqb _ _ c.if5.false, beq_false (eqb c.before.before.before.before.before.before.parent-count.result 0))
+returns : tie.Need-returns
+returns c = rw (rest c.before, ne_eqb _ _ c.if-c-eq0.false, beq_false (eqb c.before.before.before.before.before.before.parent_count-size.result 0))
 
 pub class_breaks_spec : {M : Type 1} → statement M
 class_breaks_spec =
     tie.close
     (tie.spec
     (λ c κs. search rules)
-    returns
+    returns-then-kind-gt1
     (λ c κs. search rules)
-    returns-2
+    returns-then-filler-ne0
     (λ c κs. search rules)
     (λ c κs. search rules)
     (λ c κs. search rules)
-    returns-3
+    returns-then-misplaced
     (λ c. search rules)
-    parents-break-requires
-    returns-4
-    returns-5
-    returns-6)
+    parents_break-requires
+    returns-then-parents_break
+    returns-then-c-eq0
+    returns)

@@ -12,28 +12,28 @@ use Rattle.record_rules.proofs.Tests.{parents_part}
 use Rattle.record_rules.proofs.class.parents_break.Statement.{statement}
 use Rattle.record_rules.proofs.class.parents_break.Tie as tie
 
-abbrev invariant-loop : tie.invariant-loop
-invariant-loop bytes at size c i₀ i = (i ≤ size) × ((k : ℕ) → k < i → parent_rule (from bytes at) c k ≡ true)
+abbrev invariant-loop-i : tie.invariant-loop-i
+invariant-loop-i bytes at size c i₀ i = (i ≤ size) × ((k : ℕ) → k < i → parent_rule (from bytes at) c k ≡ true)
 
-abbrev decreases-loop : tie.decreases-loop
-decreases-loop bytes at size c i₀ i = size - i
+abbrev decreases-loop-i : tie.decreases-loop-i
+decreases-loop-i bytes at size c i₀ i = size - i
 
-returns : tie.Need-returns invariant-loop decreases-loop
-returns c =
+returns-then-parent_breaks : tie.Need-returns-then-parent_breaks invariant-loop-i decreases-loop-i
+returns-then-parent_breaks c =
     let s = c.before.before in
     let a = s.before.before.before.args in
-    broken (parents_part a.bytes.now a.at a.c a.size (search rules)) s.before.loop.i (search rules) c.before.parent-breaks.ensures c.if1.true
+    broken (parents_part a.bytes.now a.at a.c a.size (search rules)) s.before.loop-i.i (search rules) c.before.parent_breaks.ensures c.if-parent_breaks.true
 
-loop-again : tie.Need-loop-preserved invariant-loop decreases-loop
-loop-again c =
+loop-i-preserved : tie.Need-loop-i-preserved invariant-loop-i decreases-loop-i
+loop-i-preserved c =
     let s = c.before.before in
-    (search rules, below_more _ _ s.before.loop.invariant.1 (passed c.before.parent-breaks.ensures c.if1.false))
+    (search rules, below_more _ _ s.before.loop-i.invariant.1 (passed c.before.parent_breaks.ensures c.if-parent_breaks.false))
 
-returns-2 : tie.Need-returns-2 invariant-loop decreases-loop
-returns-2 c =
+returns : tie.Need-returns invariant-loop-i decreases-loop-i
+returns c =
     let s = c.before in
     let a = s.before.before.args in
-    kept (parents_part a.bytes.now a.at a.c a.size (search rules)) (λ k l. s.loop.invariant.1 k (omega arith))
+    kept (parents_part a.bytes.now a.at a.c a.size (search rules)) (λ k l. s.loop-i.invariant.1 k (omega arith))
 
 pub parents_break_spec : {M : Type 1} → statement M
-parents_break_spec = tie.close (tie.spec invariant-loop decreases-loop (λ c. (search rules, below_none _)) (λ c κs. search rules) returns (λ c. search rules) (λ c. search rules) loop-again returns-2)
+parents_break_spec = tie.close (tie.spec invariant-loop-i decreases-loop-i (λ c. (search rules, below_none _)) (λ c κs. search rules) returns-then-parent_breaks (λ c. search rules) (λ c. search rules) loop-i-preserved returns)

@@ -8,13 +8,13 @@ use Rattle.record_rules.proofs.Parts.{method_function, body_fits, body_even}
 use Rattle.record_rules.proofs.code.code_breaks.Statement.{statement}
 use Rattle.record_rules.proofs.code.code_breaks.Tie as tie
 
-arity-requires : tie.Need-arity-requires
-arity-requires c κs =
+arity-n-requires : tie.Need-arity-n-requires
+arity-n-requires c κs =
     let s = c.before.before in
     (s.requires.0, omega (arith, method_function s.args.bytes.now s.args.m s.requires.1.1))
 
-pairs-break-requires : tie.Need-pairs-break-requires
-pairs-break-requires c κs =
+pairs_break-requires : tie.Need-pairs_break-requires
+pairs_break-requires c κs =
     let s = c.before.before.before.before.before.before.before in (
       record { long = refl; resends = refl; others = refl },
       omega (arith, body_fits s.args.bytes.now s.args.m s.requires.1.1, s.requires.0.code_end, s.requires.0.tables.code_len),
@@ -31,10 +31,10 @@ code_breaks_spec =
     tie.close
     (tie.spec
     (λ c κs. (c.before.requires.0, c.before.requires.1.0))
-    arity-requires
+    arity-n-requires
     (λ c κs. let s = c.before.before.before in (s.requires.0, s.requires.1.0))
     (λ c κs. let s = c.before.before.before.before in (s.requires.0, s.requires.1.0))
     (λ c. search rules)
     (λ c. search rules)
-    pairs-break-requires
+    pairs_break-requires
     returns)

@@ -12,28 +12,28 @@ use Rattle.record_rules.proofs.Tests.{pairs_part}
 use Rattle.record_rules.proofs.code.pairs_break.Statement.{statement}
 use Rattle.record_rules.proofs.code.pairs_break.Tie as tie
 
-abbrev invariant-loop : tie.invariant-loop
-invariant-loop bytes limits at count i₀ i = (i ≤ count) × ((k : ℕ) → k < i → pair_rule (from bytes at) (by_limits limits) k ≡ true)
+abbrev invariant-loop-i : tie.invariant-loop-i
+invariant-loop-i bytes limits at count i₀ i = (i ≤ count) × ((k : ℕ) → k < i → pair_rule (from bytes at) (by_limits limits) k ≡ true)
 
-abbrev decreases-loop : tie.decreases-loop
-decreases-loop bytes limits at count i₀ i = count - i
+abbrev decreases-loop-i : tie.decreases-loop-i
+decreases-loop-i bytes limits at count i₀ i = count - i
 
-returns : tie.Need-returns invariant-loop decreases-loop
-returns c =
+returns-then-pair_breaks : tie.Need-returns-then-pair_breaks invariant-loop-i decreases-loop-i
+returns-then-pair_breaks c =
     let s = c.before.before in
     let a = s.before.before.before.before.args in
-    broken (pairs_part a.bytes.now a.at (by_limits a.limits.now) a.count (search rules)) s.before.loop.i (search rules) c.before.pair-breaks.ensures c.if1.true
+    broken (pairs_part a.bytes.now a.at (by_limits a.limits.now) a.count (search rules)) s.before.loop-i.i (search rules) c.before.pair_breaks.ensures c.if-pair_breaks.true
 
-loop-again : tie.Need-loop-preserved invariant-loop decreases-loop
-loop-again c =
+loop-i-preserved : tie.Need-loop-i-preserved invariant-loop-i decreases-loop-i
+loop-i-preserved c =
     let s = c.before.before in
-    (search rules, below_more _ _ s.before.loop.invariant.1 (passed c.before.pair-breaks.ensures c.if1.false))
+    (search rules, below_more _ _ s.before.loop-i.invariant.1 (passed c.before.pair_breaks.ensures c.if-pair_breaks.false))
 
-returns-2 : tie.Need-returns-2 invariant-loop decreases-loop
-returns-2 c =
+returns : tie.Need-returns invariant-loop-i decreases-loop-i
+returns c =
     let s = c.before in
     let a = s.before.before.before.args in
-    kept (pairs_part a.bytes.now a.at (by_limits a.limits.now) a.count (search rules)) (λ k l. s.loop.invariant.1 k (omega arith))
+    kept (pairs_part a.bytes.now a.at (by_limits a.limits.now) a.count (search rules)) (λ k l. s.loop-i.invariant.1 k (omega arith))
 
 pub pairs_break_spec : {M : Type 1} → statement M
-pairs_break_spec = tie.close (tie.spec invariant-loop decreases-loop (λ c. (search rules, below_none _)) (λ c κs. search rules) returns (λ c. search rules) (λ c. search rules) loop-again returns-2)
+pairs_break_spec = tie.close (tie.spec invariant-loop-i decreases-loop-i (λ c. (search rules, below_none _)) (λ c κs. search rules) returns-then-pair_breaks (λ c. search rules) (λ c. search rules) loop-i-preserved returns)

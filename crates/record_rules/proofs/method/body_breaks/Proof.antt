@@ -16,23 +16,23 @@ sequence : (c : tie.After-misplaced)
     ≡ not c.misplaced.result
 sequence c = turned c.misplaced.result (cc)
 
-returns-2 : tie.Need-returns-2
-returns-2 c = rw (← c.before.before.before.body_length_lem.ensures.0, lt-leb _ _ c.if2.true) (simp and-false)
+returns-then-size-lt2 : tie.Need-returns-then-size-lt2
+returns-then-size-lt2 c = rw (← c.before.before.before.body_length-size.ensures.0, lt-leb _ _ c.if-size-lt2.true) (simp and-false)
 
-returns-3 : tie.Need-returns-3
-returns-3 c = rw (← c.before.before.before.before.body_length_lem.ensures.0, lt-leb _ _ c.if3.true) (simp and-false)
+returns-then-size-gt128 : tie.Need-returns-then-size-gt128
+returns-then-size-gt128 c = rw (← c.before.before.before.before.body_length-size.ensures.0, lt-leb _ _ c.if-size-gt128.true) (simp and-false)
 
-returns-4 : tie.Need-returns-4
-returns-4 c =
+returns : tie.Need-returns
+returns c =
     let e = c.before in
     let d = e.before in
     rw (
       sequence d.before,
-      d.if1.false,
-      ← d.before.before.body_length_lem.ensures.0,
-      le-leb _ _ e.if2.false,
-      le-leb _ _ c.if3.false,
+      d.if-misplaced.false,
+      ← d.before.before.body_length-size.ensures.0,
+      le-leb _ _ e.if-size-lt2.false,
+      le-leb _ _ c.if-size-gt128.false,
     )
 
 pub body_breaks_spec : {M : Type 1} → statement M
-body_breaks_spec = tie.close (tie.spec (λ c κs. search rules) (λ c κs. search rules) (λ c κs. search rules) (λ c. rw (sequence c.before, c.if1.true)) returns-2 returns-3 returns-4)
+body_breaks_spec = tie.close (tie.spec (λ c κs. search rules) (λ c κs. search rules) (λ c κs. search rules) (λ c. rw (sequence c.before, c.if-misplaced.true)) returns-then-size-lt2 returns-then-size-gt128 returns)

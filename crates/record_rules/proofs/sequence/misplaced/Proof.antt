@@ -9,33 +9,33 @@ use Rattle.rules.specs.Layout.{in_sequence}
 use Rattle.record_rules.proofs.sequence.misplaced.Statement.{statement}
 use Rattle.record_rules.proofs.sequence.misplaced.Tie as tie
 
-returns : tie.Need-returns
+returns-then-start-before : tie.Need-returns-then-start-before
 unfolding in_sequence
-returns c = rw (ne_eqb _ _ c.if1.true)
+returns-then-start-before c = rw (ne_eqb _ _ c.if-start-before.true)
 
-returns-2 : tie.Need-returns-2
+returns-then-end-start : tie.Need-returns-then-end-start
 unfolding in_sequence
-returns-2 c = rw (lt-leb _ _ c.if2.true) (simp and-false)
+returns-then-end-start c = rw (lt-leb _ _ c.if-end-start.true) (simp and-false)
 
-returns-3 : tie.Need-returns-3
+returns-then-k-n : tie.Need-returns-then-k-n
 unfolding in_sequence
-returns-3 c =
+returns-then-k-n c =
     let a = c.before.before.before.args in
     rw (
-      eq-eqb _ _ c.before.before.if1.false,
-      le-leb _ _ c.before.if2.false,
+      eq-eqb _ _ c.before.before.if-start-before.false,
+      le-leb _ _ c.before.if-end-start.false,
       lt-ltb (suc a.k) a.n (omega arith),
     )
 
-returns-4 : tie.Need-returns-4
+returns : tie.Need-returns
 unfolding in_sequence
-returns-4 c =
+returns c =
     let a = c.before.before.before.args in
     rw (
-      eq-eqb _ _ c.before.before.if1.false,
-      le-leb _ _ c.before.if2.false,
+      eq-eqb _ _ c.before.before.if-start-before.false,
+      le-leb _ _ c.before.if-end-start.false,
       le-ltb (suc a.k) a.n (omega arith),
     )
 
 pub misplaced_spec : {M : Type 1} → statement M
-misplaced_spec = tie.close (tie.spec returns (λ c. search rules) returns-2 (λ c. search rules) returns-3 (λ c. search rules) returns-4)
+misplaced_spec = tie.close (tie.spec returns-then-start-before (λ c. search rules) returns-then-end-start (λ c. search rules) returns-then-k-n (λ c. search rules) returns)

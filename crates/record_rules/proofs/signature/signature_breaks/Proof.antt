@@ -10,45 +10,45 @@ use Rattle.rules.proofs.Decides.{turned, leb_not_ltb}
 use Rattle.record_rules.proofs.signature.signature_breaks.Statement.{statement}
 use Rattle.record_rules.proofs.signature.signature_breaks.Tie as tie
 
-function-holds : (c : tie.Else1)
+function_holds : (c : tie.Else-b-f)
     → let a = c.before.before.before.before.args in
     ltb (sig_function_of a.bytes.now a.s) (function_count a.bytes.now) ≡ true
-function-holds c =
+function_holds c =
     let s = c.before.before.before.before in
-    rw (← c.before.before.sig_function_lem.ensures, ← s.requires.0.tables.functions) (lt-ltb _ _ c.if1.false)
+    rw (← c.before.before.sig_function-f.ensures, ← s.requires.0.tables.functions) (lt-ltb _ _ c.if-b-f.false)
 
 -- the tuple, in the words of the rule
-arguments : (c : tie.After-tuple-breaks)
+arguments : (c : tie.After-tuple_breaks)
     → let a = c.before.before.before.before.before.before.before.args in
     let b = a.bytes.now in
-    tuple_rule (class_count b) (arity_of b (sig_function_of b a.s)) (sig_tuple_of b a.s) ≡ not c.tuple-breaks.result
+    tuple_rule (class_count b) (arity_of b (sig_function_of b a.s)) (sig_tuple_of b a.s) ≡ not c.tuple_breaks.result
 unfolding sig_tuple_of
-arguments c = turned c.tuple-breaks.result (cc)
+arguments c = turned c.tuple_breaks.result (cc)
+
+returns-then-b-f : tie.Need-returns-then-b-f
+unfolding signature_rule
+returns-then-b-f c =
+    let s = c.before.before.before.before in
+    rw (← c.before.before.sig_function-f.ensures, ← s.requires.0.tables.functions, le-ltb _ _ c.if-b-f.true)
+
+returns-then-tuple_breaks : tie.Need-returns-then-tuple_breaks
+unfolding signature_rule
+returns-then-tuple_breaks c = rw (arguments c.before, c.if-tuple_breaks.true) (simp and-false)
 
 returns : tie.Need-returns
 unfolding signature_rule
 returns c =
-    let s = c.before.before.before.before in
-    rw (← c.before.before.sig_function_lem.ensures, ← s.requires.0.tables.functions, le-ltb _ _ c.if1.true)
-
-returns-2 : tie.Need-returns-2
-unfolding signature_rule
-returns-2 c = rw (arguments c.before, c.if2.true) (simp and-false)
-
-returns-3 : tie.Need-returns-3
-unfolding signature_rule
-returns-3 c =
     let d = c.before.before in
     let f = d.before.before.before.before in
     let s = f.before.before.before.before in
     rw (
-      function-holds f,
+      function_holds f,
       arguments d.before,
-      d.if2.false,
-      ← c.before.sig_result_lem.ensures,
+      d.if-tuple_breaks.false,
+      ← c.before.sig_result.ensures,
       ← s.requires.0.tables.classes,
     )
-    (leb_not_ltb s.args.b.classes c.before.sig_result_lem.result)
+    (leb_not_ltb s.args.b.classes c.before.sig_result.result)
 
 pub signature_breaks_spec : {M : Type 1} → statement M
-signature_breaks_spec = tie.close (tie.spec (λ c κs. search rules) returns (λ c κs. search rules) (λ c κs. search rules) (λ c κs. search rules) returns-2 (λ c κs. search rules) returns-3)
+signature_breaks_spec = tie.close (tie.spec (λ c κs. search rules) returns-then-b-f (λ c κs. search rules) (λ c κs. search rules) (λ c κs. search rules) returns-then-tuple_breaks (λ c κs. search rules) returns)

@@ -7,4 +7,4 @@ use Rattle.record_rules.proofs.tuple.fits.Tie as tie
 
 pub fits_spec : {M : Type 1} → statement M
 unfolding place_rule
-fits_spec = tie.close (tie.spec (λ c. rw (lt-ltb _ _ c.if1.true)) (λ c. rw (le-ltb _ _ c.if1.false)))
+fits_spec = tie.close (tie.spec (λ c. rw (lt-ltb _ _ c.if-i-n.true)) (λ c. rw (le-ltb _ _ c.if-i-n.false)))

@@ -4,14 +4,14 @@ use borrow.Author.Rules.{rules}
 use Rattle.reply.proofs.Reply.of_accepted.Statement.{statement}
 use Rattle.reply.proofs.Reply.of_accepted.Tie as tie
 
-returns : tie.Need-returns
-returns c = rw c.before.before.before.answer.given.1 (rw c.before.pair.ensures at c.with-steps.ensures)
+returns-in-Value : tie.Need-returns-in-Value
+returns-in-Value c = rw c.in-Value.is (rw c.pair.ensures at c.with_steps.ensures)
 
-returns-2 : tie.Need-returns-2
-returns-2 c = rw c.before.before.before.answer2.given.1 (rw c.before.pair2.ensures at c.with-steps2.ensures)
+returns-in-Spent : tie.Need-returns-in-Spent
+returns-in-Spent c = rw c.in-Spent.is (rw c.pair-in-Spent.ensures at c.with_steps-in-Spent.ensures)
 
-returns-3 : tie.Need-returns-3
-returns-3 c = rw c.before.before.before.answer3.given.1 (rw c.before.pair3.ensures at c.with-steps3.ensures)
+returns-in-Deep : tie.Need-returns-in-Deep
+returns-in-Deep c = rw c.in-Deep.is (rw c.pair-in-Deep.ensures at c.with_steps-in-Deep.ensures)
 
 pub of_accepted_spec : {M : Type 1} → statement M
 of_accepted_spec =
@@ -32,9 +32,9 @@ of_accepted_spec =
     (λ c κs. search rules)
     (λ c. search rules)
     (λ c κs. search rules)
-    returns
-    returns-2
-    returns-3
-    (λ c. rw c.before.before.answer4.given.1 c.of-finding.ensures)
-    (λ c. rw c.before.enum_told.given.1 c.pair4.ensures)
-    (λ c. rw c.before.before.answer5.given.1 c.of-refusal.ensures))
+    returns-in-Value
+    returns-in-Spent
+    returns-in-Deep
+    (λ c. rw c.in-NotAccepted.is c.of_finding.ensures)
+    (λ c. rw c.in-NotCovered.is c.pair-in-NotCovered.ensures)
+    (λ c. rw c.in-Refused.is c.of_refusal.ensures))

@@ -7,4 +7,4 @@ use Rattle.reply.proofs.Reply.of_ancestry.Tie as tie
 pub of_ancestry_spec : {M : Type 1} → statement M
 of_ancestry_spec =
     tie.close
-    (tie.spec (λ c. search rules) (λ c κs. search rules) (λ c. search rules) (λ c κs. search rules) (λ c. search rules) (λ c κs. search rules) (λ c. search rules) (λ c κs. search rules) (λ c. rw c.before.enum_told.given.1 c.pair.ensures) (λ c. rw c.before.enum-told2.given.1 c.pair2.ensures) (λ c. rw c.before.enum-told3.given.1 c.pair3.ensures) (λ c. rw c.before.before.answer.given.1 c.of-refusal.ensures))
+    (tie.spec (λ c. search rules) (λ c κs. search rules) (λ c. search rules) (λ c κs. search rules) (λ c. search rules) (λ c κs. search rules) (λ c. search rules) (λ c κs. search rules) (λ c. rw c.in-Same.is c.pair.ensures) (λ c. rw c.in-Heir.is c.pair-in-Heir.ensures) (λ c. rw c.in-Neither.is c.pair-in-Neither.ensures) (λ c. rw c.in-Refused.is c.of_refusal.ensures))

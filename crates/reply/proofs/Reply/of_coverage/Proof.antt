@@ -8,4 +8,4 @@ use Rattle.reply.proofs.Reply.of_coverage.Tie as tie
 pub of_coverage_spec : {M : Type 1} → statement M
 of_coverage_spec =
     tie.close
-    (tie.spec (λ c κs. search rules) (λ c κs. search rules) (λ c κs. search rules) (λ c. rw (c.second.ensures, c.before.first.ensures, c.before.before.number.ensures, tuple_values _ _ _ _ _ c.before.before.before.before.before.args.found.failure)))
+    (tie.spec (λ c κs. search rules) (λ c κs. search rules) (λ c κs. search rules) (λ c. rw (c.second-n.ensures, c.first-m.ensures, c.number-number.ensures, tuple_values _ _ _ _ _ c.args.found.failure)))

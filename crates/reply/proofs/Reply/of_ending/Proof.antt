@@ -7,4 +7,4 @@ use Rattle.reply.proofs.Reply.of_ending.Tie as tie
 pub of_ending_spec : {M : Type 1} → statement M
 of_ending_spec =
     tie.close
-    (tie.spec (λ c. search rules) (λ c κs. search rules) (λ c. search rules) (λ c κs. search rules) (λ c. search rules) (λ c κs. search rules) (λ c. search rules) (λ c κs. search rules) (λ c. search rules) (λ c κs. search rules) (λ c. rw c.before.before.ending.given.1 c.pair.ensures) (λ c. rw c.before.enum_told.given.1 c.pair2.ensures) (λ c. rw c.before.enum-told2.given.1 c.pair3.ensures) (λ c. rw c.before.before.ending2.given.1 c.of_send.ensures) (λ c. rw c.before.before.ending3.given.1 c.pair4.ensures))
+    (tie.spec (λ c. search rules) (λ c κs. search rules) (λ c. search rules) (λ c κs. search rules) (λ c. search rules) (λ c κs. search rules) (λ c. search rules) (λ c κs. search rules) (λ c. search rules) (λ c κs. search rules) (λ c. rw c.in-Value.is c.pair.ensures) (λ c. rw c.in-Spent.is c.pair-in-Spent.ensures) (λ c. rw c.in-Deep.is c.pair-in-Deep.ensures) (λ c. rw c.in-Fails.is c.of_send.ensures) (λ c. rw c.in-Stopped.is c.pair-in-Stopped.ensures))

@@ -7,10 +7,10 @@ use Rattle.reply.proofs.Reply.of_layout.Tie as tie
 
 returns : tie.Need-returns
 returns c =
-    let values = layout_values_lem c.before.before.before.args.found in
+    let values = layout_values_lem c.args.found in
     let pair = c.pair.ensures in
-    let number = c.before.before.number.ensures in
-    let place = c.before.«record».ensures in
+    let number = c.number.ensures in
+    let place = c.record.ensures in
     cc
 
 pub of_layout_spec : {M : Type 1} → statement M

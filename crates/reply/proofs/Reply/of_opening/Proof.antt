@@ -7,4 +7,4 @@ use Rattle.reply.proofs.Reply.of_opening.Tie as tie
 pub of_opening_spec : {M : Type 1} → statement M
 of_opening_spec =
     tie.close
-    (tie.spec (λ c. search rules) (λ c. search rules) (λ c κs. search rules) (λ c. rw c.before.opening.given.1) (λ c. rw c.before.before.opening2.given.1 c.of-layout.ensures))
+    (tie.spec (λ c. search rules) (λ c. search rules) (λ c κs. search rules) (λ c. rw c.in-Opened.is) (λ c. rw c.in-Refused.is c.of_layout.ensures))

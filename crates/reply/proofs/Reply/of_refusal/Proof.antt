@@ -7,10 +7,10 @@ use Rattle.reply.proofs.Reply.of_refusal.Tie as tie
 
 returns : tie.Need-returns
 returns c =
-    let values = refusal_values_lem c.before.before.before.args.refusal in
+    let values = refusal_values_lem c.args.refusal in
     let pair = c.pair.ensures in
-    let number = c.before.before.number.ensures in
-    let place = c.before.«record».ensures in
+    let number = c.number.ensures in
+    let place = c.record.ensures in
     cc
 
 pub of_refusal_spec : {M : Type 1} → statement M

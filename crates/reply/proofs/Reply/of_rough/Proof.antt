@@ -7,4 +7,4 @@ use Rattle.reply.proofs.Reply.of_rough.Tie as tie
 pub of_rough_spec : {M : Type 1} → statement M
 of_rough_spec =
     tie.close
-    (tie.spec (λ c. search rules) (λ c κs. search rules) (λ c. search rules) (λ c κs. search rules) (λ c. search rules) (λ c κs. search rules) (λ c. search rules) (λ c κs. search rules) (λ c. search rules) (λ c κs. search rules) (λ c. rw c.before.before.answer.given.1 c.pair.ensures) (λ c. rw c.before.enum_told.given.1 c.pair2.ensures) (λ c. rw c.before.enum-told2.given.1 c.pair3.ensures) (λ c. rw c.before.enum-told3.given.1 c.pair4.ensures) (λ c. rw c.before.before.answer2.given.1 c.of-refusal.ensures))
+    (tie.spec (λ c. search rules) (λ c κs. search rules) (λ c. search rules) (λ c κs. search rules) (λ c. search rules) (λ c κs. search rules) (λ c. search rules) (λ c κs. search rules) (λ c. search rules) (λ c κs. search rules) (λ c. rw c.in-One.is c.pair.ensures) (λ c. rw c.in-MayFail.is c.pair-in-MayFail.ensures) (λ c. rw c.in-Several.is c.pair-in-Several.ensures) (λ c. rw c.in-NoConcrete.is c.pair-in-NoConcrete.ensures) (λ c. rw c.in-Refused.is c.of_refusal.ensures))

@@ -8,4 +8,4 @@ use Rattle.reply.proofs.Reply.of_send.Tie as tie
 pub of_send_spec : {M : Type 1} → statement M
 of_send_spec =
     tie.close
-    (tie.spec (λ c κs. search rules) (λ c κs. search rules) (λ c κs. search rules) (λ c. rw (c.second.ensures, c.before.first.ensures, c.before.before.number.ensures, send_values_lem _ _ _ _ c.before.before.before.before.args.failure)))
+    (tie.spec (λ c κs. search rules) (λ c κs. search rules) (λ c κs. search rules) (λ c. rw (c.second-n.ensures, c.first-m.ensures, c.number-number.ensures, send_values_lem _ _ _ _ c.args.failure)))

@@ -7,4 +7,4 @@ use Rattle.reply.proofs.Reply.of_verdict.Tie as tie
 pub of_verdict_spec : {M : Type 1} → statement M
 of_verdict_spec =
     tie.close
-    (tie.spec (λ c. search rules) (λ c κs. search rules) (λ c. search rules) (λ c κs. search rules) (λ c. rw c.before.enum_told.given.1 c.pair.ensures) (λ c. rw c.before.before.verdict.given.1 c.of-finding.ensures))
+    (tie.spec (λ c. search rules) (λ c κs. search rules) (λ c. search rules) (λ c κs. search rules) (λ c. rw c.in-Accepted.is c.pair.ensures) (λ c. rw c.in-Refused.is c.of_finding.ensures))

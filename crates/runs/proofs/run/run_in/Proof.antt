@@ -8,29 +8,25 @@ use Rattle.runs.proofs.Answered.{run_absent, run_ended}
 use Rattle.runs.proofs.run.run_in.Statement.{statement}
 use Rattle.runs.proofs.run.run_in.Tie as tie
 
-array-share-prefix-classes : tie.Need-array-share-prefix-classes
-array-share-prefix-classes c = let e = c.before in (e.before.before.concrete-classes-of.ensures.1.0 (not-false _ e.if1.false)).within
+slice_bounds-classes-end : tie.Need-slice_bounds-classes-end
+slice_bounds-classes-end c = (c.concrete_classes_of-args.ensures.1.0 ((not-false _ c.if-not-args.false))).within
 
 run-requires : tie.Need-run-requires
 run-requires c κs =
-    let e = c.before.before in
-    let r = e.before.before in
-    (r.before.before.before.requires, (r.concrete-classes-of.ensures.1.0 (not-false _ e.if1.false)).arguments)
+    (c.requires, (c.concrete_classes_of-args.ensures.1.0 ((not-false _ c.if-not-args.false))).arguments)
 
-returns-2 : tie.Need-returns-2
-returns-2 c =
-    let e = c.before.before.before in
-    let r = e.before.before in
-    let sent = not-false _ e.if1.false in
-    run_ended _ _ _ _ (sym r.concrete-classes-of.ensures.0 ∙ sent) (r.concrete-classes-of.ensures.1.0 sent) c.run.ensures
+returns : tie.Need-returns
+returns c =
+    let sent = (not-false _ c.if-not-args.false) in
+    run_ended _ _ _ _ (sym c.concrete_classes_of-args.ensures.0 ∙ sent) (c.concrete_classes_of-args.ensures.1.0 sent) c.run.ensures
 
 pub run_in_spec : {M : Type 1} → statement M
 run_in_spec =
     tie.close
     (tie.spec
     (λ c κs. search rules)
-    (λ c. run_absent _ _ _ _ (sym c.before.before.concrete-classes-of.ensures.0 ∙ not-true _ c.if1.true))
-    array-share-prefix-classes
-    (λ c. sym (length-take-le _ _ (array-share-prefix-classes c.before)))
+    (λ c. run_absent _ _ _ _ (sym c.concrete_classes_of-args.ensures.0 ∙ (not-true _ c.if-not-args.true)))
+    slice_bounds-classes-end
+    (λ c. sym (length-take-le _ _ (slice_bounds-classes-end c.before)))
     run-requires
-    returns-2)
+    returns)

@@ -6,11 +6,9 @@ use Rattle.sends.proofs.Sent.{absent_function, present_function}
 use Rattle.sends.proofs.send.is_send.Statement.{statement}
 use Rattle.sends.proofs.send.is_send.Tie as tie
 
-returns-2 : tie.Need-returns-2
-returns-2 c =
-    let a = c.before.before in
-    let g = a.before.before.before.before.before.before in
-    c.is-tuple.ensures ∙ present_function g.requires _ _ (search rules) a.arity.ensures.0
+returns : tie.Need-returns
+returns c =
+    c.is_tuple.ensures ∙ present_function c.requires _ _ (search rules) c.arity.ensures.0
 
 pub is_send_spec : {M : Type 1} → statement M
-is_send_spec = tie.close (tie.spec (λ c. sym (absent_function c.before.before.before.before.requires _ _ c.if1.true)) (λ c κs. search rules) (λ c. search rules) (λ c κs. search rules) returns-2)
+is_send_spec = tie.close (tie.spec (λ c. sym (absent_function c.requires _ _ c.if-b-send.true)) (λ c κs. search rules) (λ c. search rules) (λ c κs. search rules) returns)

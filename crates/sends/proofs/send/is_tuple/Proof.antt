@@ -1,7 +1,6 @@
 -- `sends::send::is_tuple` meets its contract. The loop's invariant: every place below i keeps the rule.
 -- Assumes nothing.
 use borrow.Author.Rules.{rules}
-use borrow.Author.Tests.{not-true, not-false}
 use borrow.Author.Count.{below_none, below_more}
 use Prim.Native.Nat.{ℕ, ◌-◌, ◌≤◌, ◌<◌}
 use native.Mathlib.Omega.{arith}
@@ -13,21 +12,19 @@ use Rattle.rules.proofs.Decides.{tuple_decides}
 use Rattle.sends.proofs.send.is_tuple.Statement.{statement}
 use Rattle.sends.proofs.send.is_tuple.Tie as tie
 
-abbrev invariant-loop : tie.invariant-loop
-invariant-loop classes n places i₀ i = (i ≤ length places) × ((k : ℕ) → k < i → place_rule classes n k (get_or places k 0) ≡ true)
+abbrev invariant-loop-i : tie.invariant-loop-i
+invariant-loop-i classes n places i₀ i = (i ≤ length places) × ((k : ℕ) → k < i → place_rule classes n k (get_or places k 0) ≡ true)
 
-abbrev decreases-loop : tie.decreases-loop
-decreases-loop classes n places i₀ i = length places - i
+abbrev decreases-loop-i : tie.decreases-loop-i
+decreases-loop-i classes n places i₀ i = length places - i
 
-returns : tie.Need-returns invariant-loop decreases-loop
-returns c =
-    let l = c.before.before.before.before in
-    sym ((tuple_decides _ _ _).breaks l.loop.i (search rules) (sym c.before.fits2.ensures ∙ not-true _ c.if1.true))
+returns-then-not-fits : tie.Need-returns-then-not-fits invariant-loop-i decreases-loop-i
+returns-then-not-fits c =
+    sym ((tuple_decides _ _ _).breaks c.loop-i.i (search rules) (sym c.fits.ensures ∙ c.if-not-fits.true))
 
-loop-again : tie.Need-loop-preserved invariant-loop decreases-loop
-loop-again c =
-    let l = c.before.before.before.before in
-    (search rules, below_more _ _ l.loop.invariant.1 (sym c.before.fits2.ensures ∙ not-false _ c.if1.false))
+loop-i-preserved : tie.Need-loop-i-preserved invariant-loop-i decreases-loop-i
+loop-i-preserved c =
+    (search rules, below_more _ _ c.loop-i.invariant.1 (sym c.fits.ensures ∙ c.if-not-fits.false))
 
 pub is_tuple_spec : {M : Type 1} → statement M
-is_tuple_spec = tie.close (tie.spec invariant-loop decreases-loop (λ c. (search rules, below_none _)) (λ c. search rules) (λ c. search rules) (λ c κs. search rules) returns (λ c. search rules) (λ c. search rules) loop-again (λ c. sym ((tuple_decides _ _ _).holds (λ i l. c.before.loop.invariant.1 i (omega arith)))))
+is_tuple_spec = tie.close (tie.spec invariant-loop-i decreases-loop-i (λ c. (search rules, below_none _)) (λ c. search rules) (λ c. search rules) (λ c κs. search rules) returns-then-not-fits (λ c. search rules) (λ c. search rules) loop-i-preserved (λ c. sym ((tuple_decides _ _ _).holds (λ i l. c.loop-i.invariant.1 i (omega arith)))))

@@ -8,8 +8,8 @@ pub sound_end_spec : {M : Type 1} → statement M
 sound_end_spec =
     tie.close
     (tie.spec (λ c. search rules) (λ c. search rules) (λ c. search rules) (λ c. search rules) (λ c. search rules)
-    (λ c. rw c.before.ending.given.1)
-    (λ c. rw c.enum_told.given.1)
-    (λ c. rw c.enum-told2.given.1)
-    (λ c. absurd (rw c.enum-told3.given.1 at c.before.before.requires))
-    (λ c. absurd (rw c.enum-told4.given.1 at c.before.before.requires)))
+    (λ c. rw c.in-Value.is)
+    (λ c. rw c.in-Spent.is)
+    (λ c. rw c.in-Deep.is)
+    (λ c. absurd (rw c.in-Fails.is at c.requires))
+    (λ c. absurd (rw c.in-Stopped.is at c.requires)))

@@ -15,43 +15,41 @@ use Rattle.subclasses.proofs.Rows.{rows_bytes}
 use Rattle.subclasses.proofs.matrix.fill.Statement.{statement}
 use Rattle.subclasses.proofs.matrix.fill.Tie as tie
 
-abbrev invariant-loop : tie.invariant-loop
-invariant-loop bytes scratch₀ rows w₀ scratch w =
+abbrev invariant-loop-w : tie.invariant-loop-w
+invariant-loop-w bytes scratch₀ rows w₀ scratch w =
     (w ≤ 256) × (length scratch ≡ length scratch₀) × (scratch ≡ overwrite (8 * w) (matrix_byte (model_of bytes)) scratch₀)
 
-abbrev decreases-loop : tie.decreases-loop
-decreases-loop bytes scratch₀ rows w₀ scratch w = 256 - w
+abbrev decreases-loop-w : tie.decreases-loop-w
+decreases-loop-w bytes scratch₀ rows w₀ scratch w = 256 - w
 
-put-word-requires : tie.Need-put-word-requires invariant-loop decreases-loop
-put-word-requires c κs =
-    let l = c.before.before.loop in
+put_word-requires : tie.Need-put_word-requires invariant-loop-w decreases-loop-w
+put_word-requires c κs =
+    let l = c.loop-w in
     lent_long (8 * l.w) l.scratch 8 (omega arith)
 
-loop-again : tie.Need-loop-preserved invariant-loop decreases-loop
-loop-again c =
-    let s = c.before.before.before.before.before in
-    let g = s.before.before.before.before in
-    let word = get_or s.before.rows_of_lem.result s.loop.w 0 in
-    let M = model_of g.args.bytes.now in
-    let next : 8 * s.loop.w + 8 ≡ 8 * (s.loop.w + 1) = omega arith in
-    let rows : RowsTo M M.classes s.before.rows_of_lem.result = rw (counts_of g.requires.0).classes at s.before.rows_of_lem.ensures in
+loop-w-preserved : tie.Need-loop-w-preserved invariant-loop-w decreases-loop-w
+loop-w-preserved c =
+    let word = get_or c.rows_of-rows.result c.loop-w.w 0 in
+    let M = model_of c.args.bytes.now in
+    let next : 8 * c.loop-w.w + 8 ≡ 8 * (c.loop-w.w + 1) = omega arith in
+    let rows : RowsTo M M.classes c.rows_of-rows.result = rw (counts_of c.requires.0).classes at c.rows_of-rows.ensures in
     let written =
-    overwrite_lent (8 * s.loop.w) 8 (matrix_byte M) (word_byte word) g.args.scratch.now s.loop.scratch c.before.before.put_word.new.1.0 s.loop.invariant.2
-    (λ j h. rows_bytes M _ rows s.loop.w j (omega arith) h) c.before.before.put_word.ensures
-    ∙ ap (λ (n : ℕ). overwrite n (matrix_byte M) g.args.scratch.now) next in
+    overwrite_lent (8 * c.loop-w.w) 8 (matrix_byte M) (word_byte word) c.args.scratch.now c.loop-w.scratch c.put_word.new.part c.loop-w.invariant.2
+    (λ j h. rows_bytes M _ rows c.loop-w.w j (omega arith) h) c.put_word.ensures
+    ∙ ap (λ (n : ℕ). overwrite n (matrix_byte M) c.args.scratch.now) next in
     (omega arith, ap length written ∙ overwrite_length _ _ _ (omega arith), written)
 
-returns : tie.Need-returns invariant-loop decreases-loop
+returns : tie.Need-returns invariant-loop-w decreases-loop-w
 returns c =
-    let all : c.before.loop.w ≡ 256 = omega arith in
-    rw all at c.before.loop.invariant.2
+    let all : c.loop-w.w ≡ 256 = omega arith in
+    rw all at c.loop-w.invariant.2
 
 pub fill_spec : {M : Type 1} → statement M
 fill_spec =
     tie.close
     (tie.spec
-    invariant-loop
-    decreases-loop
+    invariant-loop-w
+    decreases-loop-w
     (λ c κs. search rules)
     (λ c. (omega arith, refl, sym (overwrite_none _ _)))
     (λ c. search rules)
@@ -60,9 +58,9 @@ fill_spec =
     (λ c. search rules)
     (λ c. search rules)
     (λ c. search rules)
-    put-word-requires
+    put_word-requires
     (λ c. search rules)
     (λ c. search rules)
-    loop-again
-    (λ c. c.before.loop.invariant.1)
+    loop-w-preserved
+    (λ c. c.loop-w.invariant.1)
     returns)

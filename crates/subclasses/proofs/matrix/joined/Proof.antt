@@ -14,11 +14,11 @@ use Rattle.subclasses.proofs.matrix.joined.Tie as tie
 
 returns : tie.Need-returns
 returns c i h =
-    let g = c.before.before.before.before.args in
+    let g = c.args in
     either_set g.row.now g.rows.now _ (2 * g.p) 2 words i (omega arith)
   where
     words : (w : ℕ) → w < 2
-        → let g = c.before.before.before.before.args in
+        → let g = c.args in
         get_or (bit_or (get_or g.row.now 0 0) (get_or g.rows.now (2 * g.p) 0) ∷ bit_or (get_or g.row.now 1 0) (get_or g.rows.now (2 * g.p + 1) 0) ∷ []) w 0
         ≡ bit_or (get_or g.row.now w 0) (get_or g.rows.now (2 * g.p + w) 0)
     words zero l = rw add-zero

@@ -11,39 +11,39 @@ use Rattle.subclasses.specs.Matrix.{word_byte}
 use Rattle.subclasses.proofs.matrix.put_word.Statement.{statement}
 use Rattle.subclasses.proofs.matrix.put_word.Tie as tie
 
-abbrev invariant-loop : tie.invariant-loop
-invariant-loop word part₀ j₀ part j = (j ≤ 8) × (part ≡ overwrite j (word_byte word) part₀)
+abbrev invariant-loop-j : tie.invariant-loop-j
+invariant-loop-j word part₀ j₀ part j = (j ≤ 8) × (part ≡ overwrite j (word_byte word) part₀)
 
-abbrev decreases-loop : tie.decreases-loop
-decreases-loop word part₀ j₀ part j = 8 - j
+abbrev decreases-loop-j : tie.decreases-loop-j
+decreases-loop-j word part₀ j₀ part j = 8 - j
 
-slice-write-part : tie.Need-slice-write-part invariant-loop decreases-loop
-slice-write-part c =
-    let n = ap length c.before.loop.invariant.1 ∙ overwrite_length _ _ _ (search rules) in
+bounds-part-j : tie.Need-bounds-part-j invariant-loop-j decreases-loop-j
+bounds-part-j c =
+    let n = ap length c.loop-j.invariant.1 ∙ overwrite_length _ _ _ (search rules) in
     omega (arith, n)
 
-loop-again : tie.Need-loop-preserved invariant-loop decreases-loop
+loop-j-preserved : tie.Need-loop-j-preserved invariant-loop-j decreases-loop-j
 unfolding word_byte
-loop-again c = (omega arith, rw c.before.loop.invariant.1 (overwrite_more (word_byte c.before.before.args.word) _ _ (omega arith)))
+loop-j-preserved c = (omega arith, rw c.loop-j.invariant.1 (overwrite_more (word_byte c.args.word) _ _ (omega arith)))
 
-returns : tie.Need-returns invariant-loop decreases-loop
+returns : tie.Need-returns invariant-loop-j decreases-loop-j
 returns c =
-    let all : c.before.loop.j ≡ 8 = omega arith in
-    rw all at c.before.loop.invariant.1
+    let all : c.loop-j.j ≡ 8 = omega arith in
+    rw all at c.loop-j.invariant.1
 
 pub put_word_spec : {M : Type 1} → statement M
 put_word_spec =
     tie.close
     (tie.spec
-    invariant-loop
-    decreases-loop
+    invariant-loop-j
+    decreases-loop-j
     (λ c. (omega arith, sym (overwrite_none _ _)))
     (λ c. search rules)
     (λ c. search rules)
     (λ c. search rules)
-    slice-write-part
+    bounds-part-j
     (λ c. search rules)
     (λ c. search rules)
-    loop-again
-    (λ c. ap length c.before.loop.invariant.1 ∙ overwrite_length _ _ _ (search rules))
+    loop-j-preserved
+    (λ c. ap length c.loop-j.invariant.1 ∙ overwrite_length _ _ _ (search rules))
     returns)

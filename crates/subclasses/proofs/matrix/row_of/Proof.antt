@@ -10,46 +10,43 @@ use Rattle.subclasses.proofs.Rows.{Joined, joined_none, joined_more, joined_all}
 use Rattle.subclasses.proofs.matrix.row_of.Statement.{statement}
 use Rattle.subclasses.proofs.matrix.row_of.Tie as tie
 
-abbrev invariant-loop : tie.invariant-loop
-invariant-loop bytes b rows a row₀ n i₀ row i = Joined (model_of bytes) a i row
+abbrev invariant-loop-i : tie.invariant-loop-i
+invariant-loop-i bytes b rows a row₀ n i₀ row i = Joined (model_of bytes) a i row
 
-abbrev decreases-loop : tie.decreases-loop
-decreases-loop bytes b rows a row₀ n i₀ row i = n - i
+abbrev decreases-loop-i : tie.decreases-loop-i
+decreases-loop-i bytes b rows a row₀ n i₀ row i = n - i
 
-own-row-requires : tie.Need-own-row-requires invariant-loop decreases-loop
-own-row-requires c κs = omega (arith, classes_fit c.before.requires.0)
+own_row-row-requires : tie.Need-own_row-row-requires invariant-loop-i decreases-loop-i
+own_row-row-requires c κs = omega (arith, classes_fit c.requires.0)
 
-joined-requires : tie.Need-joined-requires invariant-loop decreases-loop
-joined-requires c κs =
-    let fit = classes_fit c.before.before.before.before.before.before.before.requires.0 in
+joined-row-requires : tie.Need-joined-row-requires invariant-loop-i decreases-loop-i
+joined-row-requires c κs =
+    let fit = classes_fit c.requires.0 in
     omega arith
 
-loop-again : tie.Need-loop-preserved invariant-loop decreases-loop
-loop-again c =
-    let s = c.before.before.before.before in
-    let g = s.before.before.before.before in
-    let fit = classes_fit g.requires.0 in
-    let p = c.before.before.parent in
-    joined_more _ _ g.args.rows.now s.loop.row _ s.loop.i p.result g.requires.1.1 s.loop.invariant (omega arith) p.ensures.0 p.ensures.1 (omega arith) c.joined.ensures
+loop-i-preserved : tie.Need-loop-i-preserved invariant-loop-i decreases-loop-i
+loop-i-preserved c =
+    let fit = classes_fit c.requires.0 in
+    let p = c.parent-p in
+    joined_more _ _ c.args.rows.now c.loop-i.row _ c.loop-i.i p.result c.requires.1.1 c.loop-i.invariant (omega arith) p.ensures.0 p.ensures.1 (omega arith) c.joined-row.ensures
 
-returns : tie.Need-returns invariant-loop decreases-loop
+returns : tie.Need-returns invariant-loop-i decreases-loop-i
 returns c =
-    let g = c.before.before.before.before.before in
-    let counts = counts_of g.requires.0 in
-    joined_all _ _ c.before.loop.row c.before.loop.i (wellformed_of g.requires.0) (omega arith) c.before.loop.invariant (omega arith)
+    let counts = counts_of c.requires.0 in
+    joined_all _ _ c.loop-i.row c.loop-i.i (wellformed_of c.requires.0) (omega arith) c.loop-i.invariant (omega arith)
 
 pub row_of_spec : {M : Type 1} → statement M
 row_of_spec =
     tie.close
     (tie.spec
-    invariant-loop
-    decreases-loop
-    own-row-requires
+    invariant-loop-i
+    decreases-loop-i
+    own_row-row-requires
     (λ c κs. search rules)
-    (λ c. joined_none _ _ _ c.before.own_row.ensures)
+    (λ c. joined_none _ _ _ c.own_row-row.ensures)
     (λ c κs. search rules)
-    joined-requires
+    joined-row-requires
     (λ c. search rules)
     (λ c. search rules)
-    loop-again
+    loop-i-preserved
     returns)

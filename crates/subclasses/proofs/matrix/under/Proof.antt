@@ -9,12 +9,12 @@ use Rattle.subclasses.proofs.Told.{entry_set, entry_by}
 use Rattle.subclasses.proofs.matrix.under.Statement.{statement}
 use Rattle.subclasses.proofs.matrix.under.Tie as tie
 
-returns : tie.Need-returns
-returns c = sym (entry_set _ _ _ _ c.before.ancestry-of.ensures c.match.keys1)
+returns-in-Same : tie.Need-returns-in-Same
+returns-in-Same c = sym (entry_set _ _ _ _ c.ancestry_of.ensures c.in-Same.in-Same-own.keys1)
 
-returns-2 : tie.Need-returns-2
+returns-in-Neither : tie.Need-returns-in-Neither
 unfolding is_under ancestry_of
-returns-2 c = sym (entry_by _ _ _ _ c.before.before.ancestry-of.ensures Neither c.enum_told.given.1)
+returns-in-Neither c = sym (entry_by _ _ _ _ c.ancestry_of.ensures Neither c.in-Neither.is)
 
 pub under_spec : {M : Type 1} → statement M
-under_spec = tie.close (tie.spec (λ c κs. search rules) (λ c. search rules) returns returns-2)
+under_spec = tie.close (tie.spec (λ c κs. search rules) (λ c. search rules) returns-in-Same returns-in-Neither)

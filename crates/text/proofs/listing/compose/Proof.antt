@@ -8,23 +8,16 @@ use borrow.Author.Rules.{rules}
 use Rattle.text.proofs.listing.compose.Statement.{statement}
 use Rattle.text.proofs.listing.compose.Tie as tie
 
-returns : tie.Need-returns
-returns c =
-    let t = c.before.before in
-    let f = t.before in
-    let u = f.before.before.before.before in
-    let s = u.before.before.before in
-    let b = s.args.bundle.now in
-    let e = ap said (sym f.finding.ensures) ∙ u.«open».ensures.answer in
-    let line = t.layout-line.ensures (model_of b) in
-    (composed_refused b f.finding.result _ _ _ e s.requires line, line.same)
+returns-in_default : tie.Need-returns-in_default
+returns-in_default c =
+    let b = c.args.bundle.now in
+    let e = ap said (sym c.finding.ensures) ∙ c.open-opening.ensures.answer in
+    let line = c.layout_line.ensures (model_of b) in
+    (composed_refused b c.finding.result _ _ _ e c.requires line, line.same)
 
-compose-opened-requires : tie.Need-compose-opened-requires
-compose-opened-requires c κs =
-    let k = c.before.before in
-    let u = k.before.before in
-    let s = u.before.before.before in
-    (subst (Opens s.args.bundle.now) k.opening.given.1 u.«open».ensures, s.requires)
+compose_opened-requires : tie.Need-compose_opened-requires
+compose_opened-requires c κs =
+    (subst (Opens c.args.bundle.now) c.in-Opened.is c.open-opening.ensures, c.requires)
 
 pub compose_spec : {M : Type 1} → statement M
 compose_spec =
@@ -33,10 +26,10 @@ compose_spec =
     (λ c κs. search rules)
     (λ c. search rules)
     (λ c. search rules)
-    (λ c κs. rw c.before.enum_told.given.1 tt)
+    (λ c κs. rw c.in_default.is tt)
     (λ c κs. search rules)
     (λ c. search rules)
-    returns
-    compose-opened-requires
+    returns-in_default
+    compose_opened-requires
     (λ c. search rules)
     (λ c. search rules))

@@ -11,34 +11,24 @@ use Rattle.text.proofs.listing.compose_opened.Statement.{statement}
 use Rattle.text.proofs.listing.compose_opened.Tie as tie
 
 fill-requires : tie.Need-fill-requires
-fill-requires c κs = let m = c.before in (opened_of m.before.before.before.requires.0, omega (arith, m.matrix.ensures))
+fill-requires c κs = (opened_of c.requires.0, omega (arith, c.matrix-scratch.ensures))
 
-check-in-requires : tie.Need-check-in-requires
-check-in-requires c κs =
-    let f = c.before.before in
-    let m = f.before.before in
-    let s = m.before.before.before in
-    record { opened = opened_of s.requires.0; filled = rw f.fill.ensures (filled_whole (model_of s.args.bundle.now) m.matrix.result (omega (arith, m.matrix.ensures))) }
+check_in-verdict-requires : tie.Need-check_in-verdict-requires
+check_in-verdict-requires c κs =
+    record { opened = opened_of c.requires.0; filled = rw c.fill.ensures (filled_whole (model_of c.args.bundle.now) c.matrix-scratch.result (omega (arith, c.matrix-scratch.ensures))) }
 
-verdict-line-requires : tie.Need-verdict-line-requires
-verdict-line-requires c κs =
-    let u = c.before.before.before in
-    let v = u.before.before in
-    let s = v.before.before.before.before.before.before.before.before in
-    let at = u.counts-line.ensures in
-    (opened_of s.requires.0, (verdict_named s.requires.0 v.check-in.result v.check-in.ensures, omega (arith, at.bound, at.same, s.requires.1)))
+verdict_line-requires : tie.Need-verdict_line-requires
+verdict_line-requires c κs =
+    let at = c.counts_line-at.ensures in
+    (opened_of c.requires.0, (verdict_named c.requires.0 c.check_in-verdict.result c.check_in-verdict.ensures, omega (arith, at.bound, at.same, c.requires.1)))
 
 returns : tie.Need-returns
-returns c =
-    let t = c.before.before in
-    let u = t.before.before.before.before in
-    let v = u.before.before in
-    let s = v.before.before.before.before.before.before.before.before in (
-      composed_opened s.requires.0 v.check-in.result _ _ _ _ _ v.check-in.ensures s.requires.1 u.counts-line.ensures t.verdict-line.ensures,
-      t.verdict-line.ensures.same ∙ u.counts-line.ensures.same,
-    )
+returns c = (
+  composed_opened c.requires.0 c.check_in-verdict.result _ _ _ _ _ c.check_in-verdict.ensures c.requires.1 c.counts_line-at.ensures c.verdict_line.ensures,
+  c.verdict_line.ensures.same ∙ c.counts_line-at.ensures.same,
+)
 
 pub compose_opened_spec : {M : Type 1} → statement M
 compose_opened_spec =
     tie.close
-    (tie.spec (λ c κs. search rules) (λ c. search rules) fill-requires (λ c. search rules) check-in-requires (λ c κs. search rules) verdict-line-requires (λ c. search rules) returns)
+    (tie.spec (λ c κs. search rules) (λ c. search rules) fill-requires (λ c. search rules) check_in-verdict-requires (λ c κs. search rules) verdict_line-requires (λ c. search rules) returns)

@@ -1,13 +1,9 @@
 -- `text::refusal::compose_line` meets its contract: case by case.
 -- Assumes nothing.
-use Prim.Native.Nat.{ℕ}
 use native.Mathlib.Omega.{arith}
-use mathlib.Core.Path.{◌≡◌, refl, ◌∙◌}
+use mathlib.Core.Path.{◌≡◌}
 use borrow.Author.Rules.{rules}
 use Rattle.rules.specs.Model.{Model}
-use Rattle.answers.specs.declared.refusal.Refusal.{Refusal}
-use Rattle.answers.specs.declared.refusal.Refusal.TheVariants as refusal
-use Rattle.answers.specs.Refusals.{refusal_said}
 use Rattle.chart_line.specs.declared.line.ChartAnswer.{ChartAnswer}
 use Rattle.chart_line.specs.Charted.{chart_said}
 use Rattle.lines.specs.Text.{refusal_line}
@@ -19,37 +15,32 @@ use Rattle.text.proofs.refusal.compose_line.Tie as tie
 told : (M : Model) {x y : ChartAnswer} → x ≡ y → refusal_line M (chart_said y) ≡ refusal_line M (chart_said x)
 told M e = rw e
 
-returns : tie.Need-returns
+returns-in-Written : tie.Need-returns-in-Written
 unfolding refusal_line
-returns c M = grown_as (told M c.enum_told.given.1) (grown_none 76 _ 0)
+returns-in-Written c M = grown_as (told M c.in-Written.is) (grown_none 76 _ 0)
 
-returns-2 : tie.Need-returns-2
+returns-in-Refused : tie.Need-returns-in-Refused
 unfolding refusal_line
-returns-2 c M =
-    let t = c.before.before in
-    let g = t.before.before.before.answer.given in
-    grown_as (told M g.1) (t.early-line.ensures M)
+returns-in-Refused c M =
+    grown_as (told M c.in-Refused.is) (c.early_line.ensures M)
 
-returns-3 : tie.Need-returns-3
+returns-in-NotBinary : tie.Need-returns-in-NotBinary
 unfolding refusal_line
-returns-3 c M =
-    let t = c.before.before in
-    grown_as (told M t.before.before.enum-told2.given.1) (grown_wider 76 (omega arith) (t.number-line.ensures M))
+returns-in-NotBinary c M =
+    grown_as (told M c.in-NotBinary.is) (grown_wider 76 (omega arith) (c.number_line.ensures M))
 
-returns-4 : tie.Need-returns-4
+returns-in-NoLine : tie.Need-returns-in-NoLine
 unfolding refusal_line
-returns-4 c M =
-    let t = c.before.before in
-    grown_as (told M t.before.before.enum-told3.given.1) (grown_wider 76 (omega arith) (t.number-line2.ensures M))
+returns-in-NoLine c M =
+    grown_as (told M c.in-NoLine.is) (grown_wider 76 (omega arith) (c.number_line-in-NoLine.ensures M))
 
-returns-5 : tie.Need-returns-5
+returns-in-Short : tie.Need-returns-in-Short
 unfolding refusal_line
-returns-5 c M =
-    let t = c.before.before in
-    grown_as (told M t.before.before.enum-told4.given.1) (grown_wider 76 (omega arith) (t.number-line3.ensures M))
+returns-in-Short c M =
+    grown_as (told M c.in-Short.is) (grown_wider 76 (omega arith) (c.number_line-in-Short.ensures M))
 
 pub compose_line_spec : {M : Type 1} → statement M
 compose_line_spec =
     tie.close
     (tie.spec (λ c. search rules) (λ c. search rules) (λ c κs. search rules) (λ c. search rules) (λ c. search rules) (λ c κs. search rules) (λ c. search rules) (λ c. search rules) (λ c κs. search rules)
-    (λ c. search rules) (λ c. search rules) (λ c κs. search rules) returns (λ c. search rules) returns-2 (λ c. search rules) returns-3 (λ c. search rules) returns-4 (λ c. search rules) returns-5)
+    (λ c. search rules) (λ c. search rules) (λ c κs. search rules) returns-in-Written (λ c. search rules) returns-in-Refused (λ c. search rules) returns-in-NotBinary (λ c. search rules) returns-in-NoLine (λ c. search rules) returns-in-Short)

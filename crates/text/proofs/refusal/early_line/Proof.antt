@@ -15,32 +15,28 @@ use Rattle.text.proofs.refusal.early_line.Tie as tie
 told : (M : Model) {x y : Refusal} → x ≡ y → refusal_line {A = Unit {0}} M (refusal_said y) ≡ refusal_line {A = Unit {0}} M (refusal_said x)
 told M e = rw e
 
-returns : tie.Need-returns
+returns-in-Layout : tie.Need-returns-in-Layout
 unfolding refusal_line
-returns c M =
-    let t = c.before.before in
-    grown_as (told M t.before.before.before.refusal.given.1) (t.layout-line.ensures M)
+returns-in-Layout c M =
+    grown_as (told M c.in-Layout.is) (c.layout_line.ensures M)
 
-returns-2 : tie.Need-returns-2
+returns-in-Scratch : tie.Need-returns-in-Scratch
 unfolding refusal_line
-returns-2 c M =
-    let t = c.before.before in
-    grown_as (told M t.before.before.enum_told.given.1) (grown_wider 76 (omega arith) (t.number-line.ensures M))
+returns-in-Scratch c M =
+    grown_as (told M c.in-Scratch.is) (grown_wider 76 (omega arith) (c.number_line.ensures M))
 
-returns-3 : tie.Need-returns-3
+returns-in-Row : tie.Need-returns-in-Row
 unfolding refusal_line
-returns-3 c M =
-    let t = c.before.before in
-    grown_as (told M t.before.before.enum-told2.given.1) (grown_wider 76 (omega arith) (t.number-line2.ensures M))
+returns-in-Row c M =
+    grown_as (told M c.in-Row.is) (grown_wider 76 (omega arith) (c.number_line-in-Row.ensures M))
 
-returns-4 : tie.Need-returns-4
+returns-in-Absent : tie.Need-returns-in-Absent
 unfolding refusal_line
-returns-4 c M =
-    let t = c.before.before in
-    grown_as (told M t.before.before.enum-told3.given.1) (grown_wider 76 (omega arith) (t.number-line3.ensures M))
+returns-in-Absent c M =
+    grown_as (told M c.in-Absent.is) (grown_wider 76 (omega arith) (c.number_line-in-Absent.ensures M))
 
 pub early_line_spec : {M : Type 1} → statement M
 early_line_spec =
     tie.close
     (tie.spec (λ c. search rules) (λ c κs. search rules) (λ c. search rules) (λ c. search rules) (λ c κs. search rules) (λ c. search rules) (λ c. search rules) (λ c κs. search rules)
-    (λ c. search rules) (λ c. search rules) (λ c κs. search rules) (λ c. search rules) returns (λ c. search rules) returns-2 (λ c. search rules) returns-3 (λ c. search rules) returns-4)
+    (λ c. search rules) (λ c. search rules) (λ c κs. search rules) (λ c. search rules) returns-in-Layout (λ c. search rules) returns-in-Scratch (λ c. search rules) returns-in-Row (λ c. search rules) returns-in-Absent)

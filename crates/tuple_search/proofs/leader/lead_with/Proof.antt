@@ -7,19 +7,18 @@ use Rattle.tuple_search.proofs.leader.lead_with.Statement.{statement}
 use Rattle.tuple_search.proofs.leader.lead_with.Tie as tie
 
 specialiser-requires : tie.Need-specialiser-requires
-specialiser-requires c κs = let p = c.before.before.before.before.requires in (p.0.opened, (omega arith, p.1.0))
+specialiser-requires c κs = let p = c.requires in (p.0.opened, (omega arith, p.1.0))
 
 under-requires : tie.Need-under-requires
 under-requires c κs =
-    let p = c.before.before.before.before.before.requires in
+    let p = c.requires in
     asked p.0 _ _ p.1.1 c.specialiser.ensures.1
 
-returns-2 : tie.Need-returns-2
-returns-2 c = λ h.
-    let u = c.before in
-    let e = u.before.specialiser.ensures in
-    let p = u.before.before.before.before.before.before.requires in
-    (refl, sym (answered p.0 u.under.ensures p.1.1 e.1 refl e.0) ∙ c.if2.true)
+returns-then-under : tie.Need-returns-then-under
+returns-then-under c = λ h.
+    let e = c.specialiser.ensures in
+    let p = c.requires in
+    (refl, sym (answered p.0 c.under.ensures p.1.1 e.1 refl e.0) ∙ c.if-under.true)
 
 pub lead_with_spec : {M : Type 1} → statement M
 lead_with_spec =
@@ -28,5 +27,5 @@ lead_with_spec =
     (λ c. λ h. absurd (omega arith))
     specialiser-requires
     under-requires
-    returns-2
+    returns-then-under
     (λ c. λ h. absurd (omega arith)))

@@ -7,12 +7,12 @@ use Rattle.tuple_search.proofs.Unfound.{is_failure_lem}
 use Rattle.tuple_search.proofs.question.is_failure.Statement.{statement}
 use Rattle.tuple_search.proofs.question.is_failure.Tie as tie
 
-returns : tie.Need-returns
+returns-in-Method : tie.Need-returns-in-Method
 unfolding is_failure
-returns c = rw c.enum_told.given.1
+returns-in-Method c = rw c.in-Method.is
 
-returns-2 : tie.Need-returns-2
-returns-2 c = rw c.enum-told2.given.1 (sym (is_failure_lem c.enum-told2.given.0.0))
+returns-in-Fails : tie.Need-returns-in-Fails
+returns-in-Fails c = rw c.in-Fails.is (sym (is_failure_lem c.in-Fails.field-0))
 
 pub is_failure_spec : {M : Type 1} → statement M
-is_failure_spec = tie.close (tie.spec (λ c. search rules) (λ c. search rules) returns returns-2)
+is_failure_spec = tie.close (tie.spec (λ c. search rules) (λ c. search rules) returns-in-Method returns-in-Fails)

@@ -7,12 +7,12 @@ use Rattle.tuple_search.proofs.Unfound.{is_no_method}
 use Rattle.tuple_search.proofs.question.is_method.Statement.{statement}
 use Rattle.tuple_search.proofs.question.is_method.Tie as tie
 
-returns : tie.Need-returns
+returns-in-Method : tie.Need-returns-in-Method
 unfolding is_method
-returns c = rw c.before.found.given.1
+returns-in-Method c = rw c.in-Method.is
 
-returns-2 : tie.Need-returns-2
-returns-2 c = rw c.enum_told.given.1 (sym (is_no_method _ c.enum_told.given.0.0))
+returns-in-Fails : tie.Need-returns-in-Fails
+returns-in-Fails c = rw c.in-Fails.is (sym (is_no_method _ c.in-Fails.field-0))
 
 pub is_method_spec : {M : Type 1} → statement M
-is_method_spec = tie.close (tie.spec (λ c. search rules) (λ c. search rules) returns returns-2)
+is_method_spec = tie.close (tie.spec (λ c. search rules) (λ c. search rules) returns-in-Method returns-in-Fails)

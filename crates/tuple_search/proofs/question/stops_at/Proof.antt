@@ -7,44 +7,45 @@ use borrow.Author.Rules.{rules}
 use Rattle.rules.specs.Coverage.{failing}
 use Rattle.rules.specs.Rough.{is_method, is_failure}
 use Rattle.layout.proofs.Opened.{counts_of}
+use Rattle.rules.specs.Model.{model_of}
 use Rattle.tuple_search.specs.Questions.{About, stops_at}
 use Rattle.tuple_search.proofs.question.stops_at.Statement.{statement}
 use Rattle.tuple_search.proofs.question.stops_at.Tie as tie
 
-judge-found-requires : tie.Need-judge-found-requires
-judge-found-requires c κs =
-    let p = c.before.before.before.before.before.before.requires in
+judge_found-requires : tie.Need-judge_found-requires
+judge_found-requires c κs =
+    let p = c.requires in
     let counts = counts_of p.0.opened in
-    let e = c.before.q.given.1 in
-    (p.0, (omega (arith, subst (About _) e p.1.0), (rw e at p.1.1.0, rw e at p.1.1.1)))
+    let e = c.in-Rule.is in
+    (p.0, (omega (arith, subst (About (model_of c.args.bytes.now)) e p.1.0), (rw e at p.1.1.0, rw e at p.1.1.1)))
 
-returns : tie.Need-returns
+returns-in-Rule : tie.Need-returns-in-Rule
 unfolding stops_at
-returns c = rw c.before.before.before.q.given.1 (c.fails.ensures ∙ ap failing c.before.judge-found.ensures)
+returns-in-Rule c = rw c.in-Rule.is (c.fails.ensures ∙ ap failing c.judge_found.ensures)
 
-returns-2 : tie.Need-returns-2
+returns-in-Finds : tie.Need-returns-in-Finds
 unfolding stops_at
-returns-2 c =
-    let e = c.before.enum_told.given.1 in
-    rw e (c.is_failure_lem.ensures ∙ ap is_failure (rw e at c.before.before.before.before.before.before.requires.1.1.1))
+returns-in-Finds c =
+    let e = c.in-Finds.is in
+    rw e (c.is_failure.ensures ∙ ap is_failure (rw e at c.requires.1.1.1))
 
-returns-3 : tie.Need-returns-3
+returns-in-FindsOnly : tie.Need-returns-in-FindsOnly
 unfolding stops_at
-returns-3 c =
-    let e = c.before.before.q2.given.1 in
-    rw e (ap not (c.is_method_lem.ensures ∙ ap (is_method _) (rw e at c.before.before.before.before.before.before.before.requires.1.1.1)))
+returns-in-FindsOnly c =
+    let e = c.in-FindsOnly.is in
+    rw e (ap not (c.is_method.ensures ∙ ap (is_method _) (rw e at c.requires.1.1.1)))
 
 pub stops_at_spec : {M : Type 1} → statement M
 stops_at_spec =
     tie.close
     (tie.spec
     (λ c. search rules)
-    judge-found-requires
+    judge_found-requires
     (λ c κs. search rules)
     (λ c. search rules)
     (λ c κs. search rules)
     (λ c. search rules)
     (λ c κs. search rules)
-    returns
-    returns-2
-    returns-3)
+    returns-in-Rule
+    returns-in-Finds
+    returns-in-FindsOnly)

@@ -8,27 +8,26 @@ use Rattle.tuple_search.proofs.Narrowing.{filling_none}
 use Rattle.tuple_search.proofs.search.search_below.Statement.{statement}
 use Rattle.tuple_search.proofs.search.search_below.Tie as tie
 
-function-of-requires : tie.Need-function-of-requires
-function-of-requires c κs = let p = c.before.before.before.before.requires in (p.0.opened, p.1.1.0)
+function_of-f-requires : tie.Need-function_of-f-requires
+function_of-f-requires c κs = let p = c.requires in (p.0.opened, p.1.1.0)
 
-methods-of-requires : tie.Need-methods-of-requires
-methods-of-requires c κs = let p = c.before.before.before.before.before.requires in (p.0.opened, p.1.0.ordered)
+methods_of-set-requires : tie.Need-methods_of-set-requires
+methods_of-set-requires c κs = let p = c.requires in (p.0.opened, p.1.0.ordered)
 
 search-requires : tie.Need-search-requires
 search-requires c κs =
-    let u = c.before.before in
-    let p = u.before.before.before.before.before.before.requires in
+    let p = c.requires in
     let args = p.1.1.1.0 in
     let o = p.0.opened in
-    let filling = filling_none o p.1.1.0 u.before.Function-of.ensures (p.1.1.1.1 ∙ args.arity) u.methods-of.ensures in
+    let filling = filling_none o p.1.1.0 c.function_of-f.ensures (p.1.1.1.1 ∙ args.arity) c.methods_of-set.ensures in
     (p.0, (p.1.0, (args, (omega arith, (simp sub_self filling, led_none o _ _ _ _)))))
 
 pub search_below_spec : {M : Type 1} → statement M
 search_below_spec =
     tie.close
     (tie.spec
-    function-of-requires
-    methods-of-requires
+    function_of-f-requires
+    methods_of-set-requires
     search-requires
-    (λ c. c.before.before.search.ensures.0)
-    (λ c. simp sub_self at c.before.before.search.ensures))
+    (λ c. c.search.ensures.0)
+    (λ c. simp sub_self at c.search.ensures))

@@ -26,52 +26,47 @@ leading c m h led =
     let counts = counts_of o in
     lead_found (wellformed_of o) p.1.0 g p.1.1.0 (filling_places o g) m (omega arith) led
 
-stops-at-requires : tie.Need-stops-at-requires
-stops-at-requires c κs =
-    let s = c.before.before.before.before.before in
-    let g = s.requires.1.1.1.0 in
-    (s.requires.0, (g.about, (filled_arguments s.requires.0.opened g, leading s _ (omega arith) s.requires.1.1.1.1)))
+stops_at-requires : tie.Need-stops_at-requires
+stops_at-requires c κs =
+    let g = c.requires.1.1.1.0 in
+    (c.requires.0, (g.about, (filled_arguments c.requires.0.opened g, leading c.before.before.before.before.before _ (omega arith) c.requires.1.1.1.1)))
 
-lead-of-requires : tie.Need-lead-of-requires
-lead-of-requires c κs =
-    let p = c.before.before.before.before.before.requires in
+lead_of-m-requires : tie.Need-lead_of-m-requires
+lead_of-m-requires c κs =
+    let p = c.requires in
     let o = p.0.opened in
     (o, (p.1.0, (filling_places o p.1.1.1.0, p.1.1.1.1)))
 
-stops-at-requires-2 : tie.Need-stops-at-requires-2
-stops-at-requires-2 c κs =
-    let u = c.before.before in
-    let s = u.before.before.before.before.before.before in
-    let g = s.requires.1.1.1.0 in
-    (s.requires.0, (g.about, (filled_arguments s.requires.0.opened g, leading s _ (omega arith) u.lead-of.ensures)))
+stops_at-requires-then-m-b : tie.Need-stops_at-requires-then-m-b
+stops_at-requires-then-m-b c κs =
+    let g = c.requires.1.1.1.0 in
+    (c.requires.0, (g.about, (filled_arguments c.requires.0.opened g, leading c.before.before.before.before.before.before.before.before _ (omega arith) c.lead_of-m.ensures)))
 
 -- where the code asks lookup, the function is the question's
-lookup-requires : tie.Need-lookup-requires
-lookup-requires c κs =
-    let e = c.before.before.before in
-    let p = e.before.before.before.before.before.before.before.before.requires in
+lookup-found-requires : tie.Need-lookup-found-requires
+lookup-found-requires c κs =
+    let p = c.requires in
     let g = p.1.1.1.0 in
-    (p.0, (c.before.index-methods.ensures, rw c.before.before.Function-of.ensures (filled_arguments p.0.opened g)))
+    (p.0, (c.index_methods-index.ensures, rw c.function_of-f.ensures (filled_arguments p.0.opened g)))
 
-stops-at-requires-3 : tie.Need-stops-at-requires-3
-stops-at-requires-3 c κs =
-    let u = c.before.before.before in
-    let p = u.before.before.before.before.before.before.before.before.before.requires in
+stops_at-requires-2 : tie.Need-stops_at-requires-2
+stops_at-requires-2 c κs =
+    let p = c.requires in
     let g = p.1.1.1.0 in
-    (p.0, (g.about, (filled_arguments p.0.opened g, rw u.Function-of.ensures at c.lookup.ensures)))
+    (p.0, (g.about, (filled_arguments p.0.opened g, rw c.function_of-f.ensures at c.lookup-found.ensures)))
 
 pub stops_filled_spec : {M : Type 1} → statement M
 stops_filled_spec =
     tie.close
     (tie.spec
-    stops-at-requires
+    stops_at-requires
     (λ c. search rules)
-    lead-of-requires
-    stops-at-requires-2
+    lead_of-m-requires
+    stops_at-requires-then-m-b
     (λ c. search rules)
-    (λ c κs. let p = c.before.before.before.before.before.before.before.before.requires in (p.0.opened, p.1.1.1.0.about))
+    (λ c κs. let p = c.requires in (p.0.opened, p.1.1.1.0.about))
     (λ c κs. search rules)
     (λ c. search rules)
-    lookup-requires
-    stops-at-requires-3
+    lookup-found-requires
+    stops_at-requires-2
     (λ c. search rules))

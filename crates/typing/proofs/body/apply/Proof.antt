@@ -14,73 +14,66 @@ use Rattle.typing.proofs.body.apply.Statement.{statement}
 use Rattle.typing.proofs.body.apply.Tie as tie
 
 -- the instruction of each arm
-is-arg : (c : tie.After-i) → instr c.before.before.before.before.before.before.args.i ≡ arg c.i.given.0.0
+is_arg : (c : tie.In-Arg) → instr c.args.i ≡ arg c.in-Arg.place
 unfolding instr
-is-arg c = ap instr c.i.given.1
+is_arg c = ap instr c.in-Arg.is
 
-is-new : (c : tie.After-i2) → instr c.before.before.before.before.before.before.args.i ≡ new c.i2.given.0.0
+is_new : (c : tie.In-New) → instr c.args.i ≡ new c.in-New.c
 unfolding instr
-is-new c = ap instr c.i2.given.1
+is_new c = ap instr c.in-New.is
 
-is-send : (c : tie.After-i3) → instr c.before.before.before.before.before.before.args.i ≡ send c.i3.given.0.0
+is_send : (c : tie.In-Send) → instr c.args.i ≡ send c.in-Send.f
 unfolding instr
-is-send c = ap instr c.i3.given.1
+is_send c = ap instr c.in-Send.is
 
-is-resend : (c : tie.After-enum-told) → instr c.before.before.before.before.before.before.args.i ≡ resend
+is_resend : (c : tie.In-Resend) → instr c.args.i ≡ resend
 unfolding instr
-is-resend c = ap instr c.enum_told.given.1
+is_resend c = ap instr c.in-Resend.is
 
-arg-row-requires : tie.Need-arg-row-requires
-arg-row-requires c κs =
-    let g = c.before.before.before.before.before.before.before.before in
-    let place = operand_arg g.requires.0.opened _ g.requires.1.1.0 _ g.requires.1.1.1.0 _ (is-arg c.before.before) in
-    (g.requires.0, (g.requires.1.1.0, (place, lent_long (row_bytes * g.args.h) g.args.rows.now row_bytes g.requires.1.1.1.1)))
+arg_row-requires : tie.Need-arg_row-requires
+arg_row-requires c κs =
+    let place = operand_arg c.requires.0.opened _ c.requires.1.1.0 _ c.requires.1.1.1.0 _ (is_arg c.before) in
+    (c.requires.0, (c.requires.1.1.0, (place, lent_long (row_bytes * c.args.h) c.args.rows.now row_bytes c.requires.1.1.1.1)))
 
-returns : tie.Need-returns
-returns c =
-    let g = c.before.before.before.before.before.before.before.before.before.before.before in
-    rw (is-arg c.before.before.before.before.before, stacked_back _ _ g.args.h g.args.rows.now _ c.before.before.«arg-row».ensures)
-    (applied_arg _ _ g.args.rows.now g.args.h g.requires.1.1.1.1 _)
+returns-in-Arg : tie.Need-returns-in-Arg
+returns-in-Arg c =
+    rw (is_arg c.before.before.before.before, stacked_back _ _ c.args.h c.args.rows.now _ c.arg_row.ensures)
+    (applied_arg _ _ c.args.rows.now c.args.h c.requires.1.1.1.1 _)
 
-is-concrete-requires : tie.Need-is-concrete-requires
-is-concrete-requires c κs =
-    let g = c.before.before.before.before.before.before.before in
-    (g.requires.0.opened, operand_new g.requires.0.opened _ g.requires.1.1.0 _ g.requires.1.1.1.0 _ (is-new c.before))
+is_concrete-requires : tie.Need-is_concrete-requires
+is_concrete-requires c κs =
+    (c.requires.0.opened, operand_new c.requires.0.opened _ c.requires.1.1.0 _ c.requires.1.1.1.0 _ (is_new c))
 
-class-row-requires : tie.Need-class-row-requires
-class-row-requires c κs =
-    let g = c.before.before.before.before.before.before.before.before.before.before in
-    let class = operand_new g.requires.0.opened _ g.requires.1.1.0 _ g.requires.1.1.1.0 _ (is-new c.before.before.before.before) in
-    (g.requires.0, (class, lent_long (row_bytes * g.args.h) g.args.rows.now row_bytes g.requires.1.1.1.1))
+class_row-requires : tie.Need-class_row-requires
+class_row-requires c κs =
+    let class = operand_new c.requires.0.opened _ c.requires.1.1.0 _ c.requires.1.1.1.0 _ (is_new c.before.before.before) in
+    (c.requires.0, (class, lent_long (row_bytes * c.args.h) c.args.rows.now row_bytes c.requires.1.1.1.1))
 
-returns-2 : tie.Need-returns-2
-returns-2 c =
-    let g = c.before.before.before.before.before.before.before.before.before.before.before.before.before in
-    rw (is-new c.before.before.before.before.before.before.before, stacked_back _ _ g.args.h g.args.rows.now _ c.before.before.«class-row».ensures)
-    (applied_new _ _ g.args.rows.now g.args.h g.requires.1.1.1.1 _ (sym c.before.before.before.before.before.«is-concrete».ensures ∙ c.before.before.before.before.if1.true))
+returns-then-is_concrete : tie.Need-returns-then-is_concrete
+returns-then-is_concrete c =
+    rw (is_new c.before.before.before.before.before.before, stacked_back _ _ c.args.h c.args.rows.now _ c.class_row.ensures)
+    (applied_new _ _ c.args.rows.now c.args.h c.requires.1.1.1.1 _ (sym c.is_concrete.ensures ∙ c.if-is_concrete.true))
 
-returns-3 : tie.Need-returns-3
-returns-3 c =
-    let g = c.before.before.before.before.before.before.before.before.before in
-    rw (is-new c.before.before.before)
-    (applied_abstract _ _ g.args.rows.now g.args.h _ (sym c.before.«is-concrete».ensures ∙ c.if1.false))
+returns-in-New : tie.Need-returns-in-New
+returns-in-New c =
+    rw (is_new c.before.before)
+    (applied_abstract _ _ c.args.rows.now c.args.h _ (sym c.is_concrete.ensures ∙ c.if-is_concrete.false))
 
-apply-send-requires : tie.Need-apply-send-requires
-apply-send-requires c κs =
-    let g = c.before.before.before.before.before.before.before.before in
-    let function = operand_send g.requires.0.opened _ g.requires.1.1.0 _ g.requires.1.1.1.0 _ (is-send c.before.before) in
-    (g.requires.0, (function, g.requires.1.1.1.1))
+apply_send-requires : tie.Need-apply_send-requires
+apply_send-requires c κs =
+    let function = operand_send c.requires.0.opened _ c.requires.1.1.0 _ c.requires.1.1.1.0 _ (is_send c.before) in
+    (c.requires.0, (function, c.requires.1.1.1.1))
 
-returns-4 : tie.Need-returns-4
-returns-4 c = rw (is-send c.before.before.before.before.before) (c.before.before.«apply-send».ensures.in_method _)
+returns-in-Send : tie.Need-returns-in-Send
+returns-in-Send c = rw (is_send c.before.before.before.before) (c.apply_send.ensures.in_method _)
 
-apply-resend-requires : tie.Need-apply-resend-requires
-apply-resend-requires c κs =
-    let p = c.before.before.before.before.before.before.before.requires in
+apply_resend-requires : tie.Need-apply_resend-requires
+apply_resend-requires c κs =
+    let p = c.requires in
     (p.0, (p.1.0, (p.1.1.0, p.1.1.1.1)))
 
-returns-5 : tie.Need-returns-5
-returns-5 c = rw (is-resend c.before.before.before.before) c.before.before.«apply-resend».ensures
+returns-in-Resend : tie.Need-returns-in-Resend
+returns-in-Resend c = rw (is_resend c.before.before.before.before) c.apply_resend.ensures
 
 pub apply_spec : {M : Type 1} → statement M
 apply_spec =
@@ -92,23 +85,23 @@ apply_spec =
     (λ c. search rules)
     (λ c. search rules)
     (λ c. search rules)
-    arg-row-requires
+    arg_row-requires
     (λ c. search rules)
-    returns
+    returns-in-Arg
     (λ c. search rules)
-    is-concrete-requires
+    is_concrete-requires
     (λ c. search rules)
     (λ c. search rules)
     (λ c. search rules)
-    class-row-requires
+    class_row-requires
     (λ c. search rules)
-    returns-2
-    returns-3
+    returns-then-is_concrete
+    returns-in-New
     (λ c. search rules)
-    apply-send-requires
+    apply_send-requires
     (λ c. search rules)
-    returns-4
+    returns-in-Send
     (λ c. search rules)
-    apply-resend-requires
+    apply_resend-requires
     (λ c. search rules)
-    returns-5)
+    returns-in-Resend)

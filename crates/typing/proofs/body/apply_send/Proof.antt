@@ -12,48 +12,43 @@ use borrow.Author.Rules.{rules}
 use Rattle.typing.proofs.body.apply_send.Statement.{statement}
 use Rattle.typing.proofs.body.apply_send.Tie as tie
 
-returns : tie.Need-returns
-returns c =
-    let n = c.before.arity.ensures.0 in
+returns-then-h-n : tie.Need-returns-then-h-n
+returns-then-h-n c =
+    let n = c.arity-n.ensures.0 in
     record { in_method = λ m. applied_few _ m _ _ _ (omega arith) }
 
-send-row-requires : tie.Need-send-row-requires
-send-row-requires c κs =
-    let g = c.before.before.before.before.before.before.before.before.before in
-    let n = c.before.before.before.before.before.arity.ensures in
-    let row = c.before.before.before.«one-row».ensures in (
-      g.requires.0,
-      (g.requires.1.0, (rw (lent_part (row_bytes * (g.args.h - c.before.before.before.before.before.arity.result)) g.args.rows.now, length-drop) (omega arith), omega arith)),
+send_row-requires : tie.Need-send_row-requires
+send_row-requires c κs =
+    let n = c.arity-n.ensures in
+    let row = c.one_row-sent.ensures in (
+      c.requires.0,
+      (c.requires.1.0, (rw (lent_part (row_bytes * (c.args.h - c.arity-n.result)) c.args.rows.now, length-drop) (omega arith), omega arith)),
     )
 
-returns-2 : tie.Need-returns-2
-returns-2 c =
-    let a = c.before.before.before.before.before.before.before in
-    let g = a.before.before.before.before.before.before.before.before.before.before in
-    let n = a.before.before.before.before.before.before.arity in
-    let h = g.args.h - n.result in
-    let sent = rw (lent_part (row_bytes * h) g.args.rows.now, c.before.before.before.before.before.if2.true) at a.«send-row».ensures in
+returns-then-send_row : tie.Need-returns-then-send_row
+returns-then-send_row c =
+    let n = c.arity-n in
+    let h = c.args.h - n.result in
+    let sent = rw (lent_part (row_bytes * h) c.args.rows.now, c.if-send_row.true) at c.send_row.ensures in
     record {
       in_method = λ m.
-          applied_send _ m g.args.rows.now g.args.h g.args.f n.result n.ensures.0 (omega arith) _ _ _ g.requires.1.1 sent
-          (λ t e. stacked_back _ t h g.args.rows.now _ (c.before.before.copy.ensures ∙ row_copied _ t _ _ _ e));
+          applied_send _ m c.args.rows.now c.args.h c.args.f n.result n.ensures.0 (omega arith) _ _ _ c.requires.1.1 sent
+          (λ t e. stacked_back _ t h c.args.rows.now _ (c.copy.ensures ∙ row_copied _ t _ _ _ e));
     }
 
-returns-3 : tie.Need-returns-3
-returns-3 c =
-    let a = c.before.before in
-    let g = a.before.before.before.before.before.before.before.before.before.before in
-    let n = a.before.before.before.before.before.before.arity in
-    let h = g.args.h - n.result in
-    let sent = rw (lent_part (row_bytes * h) g.args.rows.now, c.if2.false) at a.«send-row».ensures in
-    record { in_method = λ m. applied_none _ m g.args.rows.now g.args.h g.args.f n.result n.ensures.0 (omega arith) _ _ sent }
+returns : tie.Need-returns
+returns c =
+    let n = c.arity-n in
+    let h = c.args.h - n.result in
+    let sent = rw (lent_part (row_bytes * h) c.args.rows.now, c.if-send_row.false) at c.send_row.ensures in
+    record { in_method = λ m. applied_none _ m c.args.rows.now c.args.h c.args.f n.result n.ensures.0 (omega arith) _ _ sent }
 
 pub apply_send_spec : {M : Type 1} → statement M
 apply_send_spec =
     tie.close
     (tie.spec
     (λ c κs. search rules)
-    returns
+    returns-then-h-n
     (λ c. search rules)
     (λ c. search rules)
     (λ c κs. search rules)
@@ -61,13 +56,13 @@ apply_send_spec =
     (λ c. search rules)
     (λ c. search rules)
     (λ c. search rules)
-    send-row-requires
+    send_row-requires
     (λ c. search rules)
     (λ c. search rules)
     (λ c. search rules)
     (λ c. search rules)
     (λ c κs. search rules)
     (λ c. search rules)
-    returns-2
+    returns-then-send_row
     (λ c. search rules)
-    returns-3)
+    returns)

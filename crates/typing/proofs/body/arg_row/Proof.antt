@@ -15,18 +15,16 @@ use Rattle.typing.proofs.body.arg_row.Tie as tie
 
 join-requires : tie.Need-join-requires
 join-requires c κs =
-    let g = c.before.before.before.before.before.before.before.before.before.before in
-    let same = c.before.before.before.before.«class-row».auto.1.1.1.1.0 in
-    (g.requires.0, (c.before.declared.ensures.1, omega (arith, same)))
+    let same = c.class_row.auto.row in
+    (c.requires.0, (c.declared.ensures.1, omega (arith, same)))
 
 returns : tie.Need-returns
 unfolding arg_type
 returns c =
-    let g = c.before.before.before.before.before.before.before.before.before.before.before.before.before in
-    let M = model_of g.args.bytes.now in
-    c.before.before.join.ensures
-    ∙ row_joined M (c.before.before.before.before.before.before.before.before.before.specialiser.result ∷ []) _ _ _ c.before.before.before.before.before.before.before.«class-row».ensures
-    ∙ ap₂ (λ (x y : ℕ). overwrite row_bytes (type_byte M (x ∷ y ∷ [])) g.args.row.now) c.before.before.before.before.before.before.before.before.before.specialiser.ensures.0 c.before.before.before.before.declared.ensures.0
+    let M = model_of c.args.bytes.now in
+    c.join.ensures
+    ∙ row_joined M (c.specialiser.result ∷ []) _ _ _ c.class_row.ensures
+    ∙ ap₂ (λ (x y : ℕ). overwrite row_bytes (type_byte M (x ∷ y ∷ [])) c.args.row.now) c.specialiser.ensures.0 c.declared.ensures.0
 
 pub arg_row_spec : {M : Type 1} → statement M
 arg_row_spec = tie.close (tie.spec (λ c κs. search rules) (λ c κs. search rules) (λ c κs. search rules) join-requires (λ c. search rules) returns)

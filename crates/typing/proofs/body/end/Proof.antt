@@ -7,23 +7,23 @@ use borrow.Author.Rules.{rules}
 use Rattle.typing.proofs.body.end.Statement.{statement}
 use Rattle.typing.proofs.body.end.Tie as tie
 
-shared-slice-read-if2 : tie.Need-shared-slice-read-if2
-shared-slice-read-if2 c =
-    let fit = classes_fit c.before.before.before.before.before.requires.0 in
-    let class = c.before.result.ensures in
+bounds-rows-c : tie.Need-bounds-rows-c
+bounds-rows-c c =
+    let fit = classes_fit c.requires.0 in
+    let class = c.result-c.ensures in
     omega (arith, class.1)
 
-returns-2 : tie.Need-returns-2
-returns-2 c =
-    let fit = classes_fit c.before.before.before.before.before.before.requires.0 in
-    let class = c.before.before.result.ensures in
-    ended_miss _ _ _ _ _ _ c.before.before.before.if1.false class.0 (omega (arith, class.1)) c.if2.true
+returns-then-rows-c-eq0 : tie.Need-returns-then-rows-c-eq0
+returns-then-rows-c-eq0 c =
+    let fit = classes_fit c.requires.0 in
+    let class = c.result-c.ensures in
+    ended_miss _ _ _ _ _ _ c.if-h-ne1.false class.0 (omega (arith, class.1)) c.if-rows-c-eq0.true
 
-returns-3 : tie.Need-returns-3
-returns-3 c =
-    let fit = classes_fit c.before.before.before.before.before.before.requires.0 in
-    let class = c.before.before.result.ensures in
-    ended_typed _ _ _ _ _ _ c.before.before.before.if1.false class.0 (omega (arith, class.1)) c.if2.false
+returns : tie.Need-returns
+returns c =
+    let fit = classes_fit c.requires.0 in
+    let class = c.result-c.ensures in
+    ended_typed _ _ _ _ _ _ c.if-h-ne1.false class.0 (omega (arith, class.1)) c.if-rows-c-eq0.false
 
 pub end_spec : {M : Type 1} → statement M
-end_spec = tie.close (tie.spec (λ c. ended_other _ _ _ _ _ c.if1.true) (λ c κs. search rules) shared-slice-read-if2 returns-2 returns-3)
+end_spec = tie.close (tie.spec (λ c. ended_other _ _ _ _ _ c.if-h-ne1.true) (λ c κs. search rules) bounds-rows-c returns-then-rows-c-eq0 returns)

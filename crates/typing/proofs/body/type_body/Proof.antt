@@ -12,83 +12,73 @@ use Rattle.typing.proofs.Bodies.{Reached, reached_none, reached_more, reached_br
 use Rattle.typing.proofs.body.type_body.Statement.{statement}
 use Rattle.typing.proofs.body.type_body.Tie as tie
 
-abbrev invariant-loop : tie.invariant-loop
-invariant-loop bytes b scratch index m n rows₀ h₀ at₀ rows h at = (at ≤ n) × (h ≤ at) × (length rows ≡ row_bytes * 64) × Reached (model_of bytes) m rows h at
+abbrev invariant-loop-at : tie.invariant-loop-at
+invariant-loop-at bytes b scratch index m n rows₀ h₀ at₀ rows h at = (at ≤ n) × (h ≤ at) × (length rows ≡ row_bytes * 64) × Reached (model_of bytes) m rows h at
 
-abbrev decreases-loop : tie.decreases-loop
-decreases-loop bytes b scratch index m n rows₀ h₀ at₀ rows h at = n - at
+abbrev decreases-loop-at : tie.decreases-loop-at
+decreases-loop-at bytes b scratch index m n rows₀ h₀ at₀ rows h at = n - at
 
-instruction-requires : tie.Need-instruction-requires invariant-loop decreases-loop
-instruction-requires c κs =
-    let g = c.before.before.before.before.before.before.before in
-    let n = c.before.before.before.size.ensures in
-    (g.requires.0.opened, (g.requires.1.1, omega arith))
+instruction-i-requires : tie.Need-instruction-i-requires invariant-loop-at decreases-loop-at
+instruction-i-requires c κs =
+    let n = c.size-n.ensures in
+    (c.requires.0.opened, (c.requires.1.1, omega arith))
 
-slice-aggregate-apply : tie.Need-slice-aggregate-apply invariant-loop decreases-loop
-slice-aggregate-apply c =
-    let whole = c.before.before.before.loop.invariant.2 in
+slice_bounds-apply-end : tie.Need-slice_bounds-apply-end invariant-loop-at decreases-loop-at
+slice_bounds-apply-end c =
+    let whole = c.loop-at.invariant.2 in
     search rules
 
-apply-requires : tie.Need-apply-requires invariant-loop decreases-loop
-apply-requires c κs =
-    let s = c.before.before.before in
-    let g = s.before.before.before.before.before.before in
-    let n = s.before.before.size.ensures in
-    (g.requires.0, (g.requires.1.0, (g.requires.1.1, (c.before.instruction.ensures.1, omega arith))))
+apply-done-requires : tie.Need-apply-done-requires invariant-loop-at decreases-loop-at
+apply-done-requires c κs =
+    let n = c.size-n.ensures in
+    (c.requires.0, (c.requires.1.0, (c.requires.1.1, (c.instruction-i.ensures.1, omega arith))))
 
 -- the instruction that was applied is the body's
-applied : (c : tie.After-apply invariant-loop decreases-loop)
-    → let s = c.before.before.before.before in
-    let g = s.before.before.before.before.before.before in
-    let M = model_of g.args.bytes.now in
-    Applied M g.args.m (get_or (M.body g.args.m) s.loop.at (arg 0)) s.loop.rows s.loop.h c.apply.new.1.1.1.1.1.1.0 c.apply.result
-applied c = rw c.before.before.instruction.ensures.0 at c.apply.ensures
+applied : (c : tie.After-apply-done invariant-loop-at decreases-loop-at)
+    → let M = model_of c.args.bytes.now in
+    Applied M c.args.m (get_or (M.body c.args.m) c.loop-at.at (arg 0)) c.loop-at.rows c.loop-at.h c.apply-done.new.rows c.apply-done.result
+applied c = rw c.instruction-i.ensures.0 at c.apply-done.ensures
 
-returns : tie.Need-returns invariant-loop decreases-loop
+returns-in-BreaksBy : tie.Need-returns-in-BreaksBy invariant-loop-at decreases-loop-at
 unfolding typing_of
-returns c =
-    let s = c.before.before.before.before.before.before.before.before in
+returns-in-BreaksBy c =
     let a = c.before.before.before.before in
-    let n = s.before.before.size.ensures in
-    reached_break _ _ s.loop.rows s.loop.h s.loop.at s.loop.invariant.3 (omega arith) _ _ (rw c.before.done.given.1 at (applied a))
+    let n = c.size-n.ensures in
+    reached_break _ _ c.loop-at.rows c.loop-at.h c.loop-at.at c.loop-at.invariant.3 (omega arith) _ _ (rw c.in-BreaksBy.is at (applied c.before.before))
 
-loop-again : tie.Need-loop-preserved invariant-loop decreases-loop
-loop-again c =
-    let s = c.before.before.before.before.before.before.before.before in
-    let a = c.before.before.before.before in
-    let n = s.before.before.size.ensures in
-    let more = reached_more _ _ s.loop.rows s.loop.h s.loop.at s.loop.invariant.3 (omega arith) _ _ (rw c.before.done2.given.1 at (applied a)) in
-    (omega arith, omega (arith, more.1), a.apply.auto.1.1.1.1.1.1.0 ∙ s.loop.invariant.2, more.0)
+loop-at-preserved : tie.Need-loop-at-preserved invariant-loop-at decreases-loop-at
+loop-at-preserved c =
+    let n = c.size-n.ensures in
+    let more = reached_more _ _ c.loop-at.rows c.loop-at.h c.loop-at.at c.loop-at.invariant.3 (omega arith) _ _ (rw c.in-Leaves.is at (applied c.before.before)) in
+    (omega arith, omega (arith, more.1), c.apply-done.auto.rows ∙ c.loop-at.invariant.2, more.0)
 
-end-requires : tie.Need-end-requires invariant-loop decreases-loop
+end-requires : tie.Need-end-requires invariant-loop-at decreases-loop-at
 end-requires c κs =
-    let g = c.before.before.before.before.before.before.before.before in
-    (g.requires.0.opened, (g.requires.1.1, omega (arith, c.before.before.loop.invariant.2)))
+    (c.requires.0.opened, (c.requires.1.1, omega (arith, c.loop-at.invariant.2)))
 
-returns-2 : tie.Need-returns-2 invariant-loop decreases-loop
-returns-2 c =
-    let s = c.before.before.before in
-    let n = s.before.before.size.ensures in
-    reached_end _ _ s.loop.rows s.loop.h s.loop.at s.loop.invariant.3 c.end.result (omega arith) c.end.ensures
+returns : tie.Need-returns invariant-loop-at decreases-loop-at
+returns c =
+    let n = c.size-n.ensures in
+    reached_end _ _ c.loop-at.rows c.loop-at.h c.loop-at.at c.loop-at.invariant.3 c.end.result (omega arith) c.end.ensures
 
 pub type_body_spec : {M : Type 1} → statement M
 type_body_spec =
     tie.close
     (tie.spec
-    invariant-loop
-    decreases-loop
+    invariant-loop-at
+    decreases-loop-at
     (λ c κs. search rules)
     (λ c κs. search rules)
-    (λ c. (omega arith, omega arith, sym c.«body-rows».ensures, reached_none _ _ _))
-    instruction-requires
-    slice-aggregate-apply
-    apply-requires
+    (λ c. (omega arith, omega arith, sym c.body_rows-rows.ensures, reached_none _ _ _))
+    instruction-i-requires
+    slice_bounds-apply-end
+    apply-done-requires
     (λ c. search rules)
-    returns
+    returns-in-BreaksBy
     (λ c. search rules)
     (λ c. search rules)
     (λ c. search rules)
-    loop-again
-    (λ c. sym c.before.before.loop.invariant.2)
+    loop-at-preserved
+    (λ c. sym c.loop-at.invariant.2)
     end-requires
-    returns-2)
+    returns)

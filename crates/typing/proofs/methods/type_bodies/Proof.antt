@@ -13,48 +13,42 @@ use Rattle.typing.proofs.Broken.{method_broken, methods_typed}
 use Rattle.typing.proofs.methods.type_bodies.Statement.{statement}
 use Rattle.typing.proofs.methods.type_bodies.Tie as tie
 
-abbrev invariant-loop : tie.invariant-loop
-invariant-loop bytes b scratch index methods m₀ m = (m ≤ methods) × ((k : ℕ) → k < m → type_body (model_of bytes) k ≡ typed)
+abbrev invariant-loop-m : tie.invariant-loop-m
+invariant-loop-m bytes b scratch index methods m₀ m = (m ≤ methods) × ((k : ℕ) → k < m → type_body (model_of bytes) k ≡ typed)
 
-abbrev decreases-loop : tie.decreases-loop
-decreases-loop bytes b scratch index methods m₀ m = methods - m
+abbrev decreases-loop-m : tie.decreases-loop-m
+decreases-loop-m bytes b scratch index methods m₀ m = methods - m
 
-returns : tie.Need-returns invariant-loop decreases-loop
+returns-in-Breaks : tie.Need-returns-in-Breaks invariant-loop-m decreases-loop-m
 unfolding typing_of
+returns-in-Breaks c =
+    let n = (counts_of c.requires.opened).methods in
+    method_broken _ _ _ _ (omega (arith, n)) c.loop-m.invariant.1 (sym c.type_body-typing.ensures ∙ ap typing_of c.in-Breaks.is)
+
+loop-m-preserved : tie.Need-loop-m-preserved invariant-loop-m decreases-loop-m
+unfolding typing_of
+loop-m-preserved c =
+    (search rules, below_more _ _ c.loop-m.invariant.1 (sym c.type_body-typing.ensures ∙ ap typing_of c.in_default.is))
+
+returns : tie.Need-returns invariant-loop-m decreases-loop-m
 returns c =
-    let t = c.before.before.before in
-    let l = t.before.before.before in
-    let g = l.before.before.before.before in
-    let n = (counts_of g.requires.opened).methods in
-    method_broken _ _ _ _ (omega (arith, n)) l.loop.invariant.1 (sym t.type-body.ensures ∙ ap typing_of c.before.typing.given.1)
-
-loop-again : tie.Need-loop-preserved invariant-loop decreases-loop
-unfolding typing_of
-loop-again c =
-    let t = c.before.before in
-    let l = t.before.before.before in
-    (search rules, below_more _ _ l.loop.invariant.1 (sym t.type-body.ensures ∙ ap typing_of c.enum_told.given.1))
-
-returns-2 : tie.Need-returns-2 invariant-loop decreases-loop
-returns-2 c =
-    let g = c.before.before.before.before.before in
-    let n = (counts_of g.requires.opened).methods in
-    methods_typed _ (λ m h. c.before.loop.invariant.1 m (omega (arith, n)))
+    let n = (counts_of c.requires.opened).methods in
+    methods_typed _ (λ m h. c.loop-m.invariant.1 m (omega (arith, n)))
 
 pub type_bodies_spec : {M : Type 1} → statement M
 type_bodies_spec =
     tie.close
     (tie.spec
-    invariant-loop
-    decreases-loop
+    invariant-loop-m
+    decreases-loop-m
     (λ c κs. search rules)
     (λ c. (search rules, below_none _))
     (λ c. search rules)
     (λ c κs. search rules)
     (λ c. search rules)
-    returns
+    returns-in-Breaks
     (λ c. search rules)
     (λ c. search rules)
     (λ c. search rules)
-    loop-again
-    returns-2)
+    loop-m-preserved
+    returns)

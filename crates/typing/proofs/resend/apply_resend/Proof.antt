@@ -7,15 +7,13 @@ use Rattle.typing.proofs.Bodies.{applied_untargeted}
 use Rattle.typing.proofs.resend.apply_resend.Statement.{statement}
 use Rattle.typing.proofs.resend.apply_resend.Tie as tie
 
-apply-target-requires : tie.Need-apply-target-requires
-apply-target-requires c κs =
-    let g = c.before.before.before.before.before.before.before.before.before in
-    (g.requires.0, (g.requires.1.1.0, (sym c.before.before.before.before.«resend-target».ensures ∙ ap found_of c.before.before.target.given.1, g.requires.1.1.1)))
+apply_target-requires : tie.Need-apply_target-requires
+apply_target-requires c κs =
+    (c.requires.0, (c.requires.1.1.0, (sym c.resend_target.ensures ∙ ap found_of c.in-Method.is, c.requires.1.1.1)))
 
-returns : tie.Need-returns
-returns c =
-    let failed = c.before.before.failed.given in
-    rw c.«resend-number».ensures (applied_untargeted _ _ _ _ failed.0.0 (sym (ap found_of failed.1) ∙ c.before.before.before.before.«resend-target».ensures))
+returns-in-Fails : tie.Need-returns-in-Fails
+returns-in-Fails c =
+    rw c.resend_number.ensures (applied_untargeted _ _ _ _ c.in-Fails.failed (sym (ap found_of c.in-Fails.is) ∙ c.resend_target.ensures))
 
 pub apply_resend_spec : {M : Type 1} → statement M
 apply_resend_spec =
@@ -25,7 +23,7 @@ apply_resend_spec =
     (λ c. search rules)
     (λ c κs. search rules)
     (λ c. search rules)
-    apply-target-requires
-    returns
+    apply_target-requires
+    returns-in-Fails
     (λ c. search rules)
     (λ c. search rules))

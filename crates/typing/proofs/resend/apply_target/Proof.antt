@@ -1,7 +1,6 @@
 -- `typing::resend::apply_target` meets its contract: the target is a method of m's function, and the row that goes on top is that of its result class.
 -- Assumes nothing.
 use borrow.Author.Rules.{rules}
-use borrow.Author.Tests.{not-true, not-false}
 use native.Mathlib.Omega.{arith}
 use mathlib.Core.Path.{sym, ◌∙◌}
 use Rattle.rules.proofs.Resend.{found_target}
@@ -14,30 +13,26 @@ use Rattle.typing.proofs.resend.apply_target.Tie as tie
 
 suits-requires : tie.Need-suits-requires
 suits-requires c κs =
-    let p = c.before.before.before.before.before.requires in
+    let p = c.requires in
     let o = p.0.opened in
-    let n = c.arity.ensures.0 in
-    let same = sym c.before.function.ensures.0 in
+    let n = c.arity-n.ensures.0 in
+    let same = sym c.function.ensures.0 in
     let chosen = (found_target _ _ _ p.1.1.0).chosen in
     (p.0, (of_arity o n p.1.0 same, of_arity o n (omega (arith, (counts_of o).methods, chosen.bound)) (chosen.of_function ∙ same)))
 
-returns : tie.Need-returns
-returns c =
-    let g = c.before.before.before.before.before.before.before in
-    applied_narrow _ _ _ _ _ g.requires.1.1.0 (sym c.before.suits.ensures ∙ not-true _ c.if1.true)
+returns-then-not-suits : tie.Need-returns-then-not-suits
+returns-then-not-suits c =
+    applied_narrow _ _ _ _ _ c.requires.1.1.0 (sym c.suits.ensures ∙ c.if-not-suits.true)
 
 result-requires : tie.Need-result-requires
 result-requires c κs =
-    let g = c.before.before.before.before.before.before.before in
-    let o = g.requires.0.opened in
-    (o, omega (arith, (counts_of o).methods, (found_target _ _ _ g.requires.1.1.0).chosen.bound))
+    let o = c.requires.0.opened in
+    (o, omega (arith, (counts_of o).methods, (found_target _ _ _ c.requires.1.1.0).chosen.bound))
 
-returns-2 : tie.Need-returns-2
-returns-2 c =
-    let s = c.before.before.before.before.before in
-    let g = s.before.before.before.before.before.before.before in
-    rw (stacked_back _ _ g.args.h g.args.rows.now _ c.before.before.«class-row».ensures, c.before.before.before.before.result.ensures.0)
-    (applied_target _ _ g.args.rows.now g.args.h _ g.requires.1.1.0 g.requires.1.1.1 (sym s.before.suits.ensures ∙ not-false _ s.if1.false))
+returns : tie.Need-returns
+returns c =
+    rw (stacked_back _ _ c.args.h c.args.rows.now _ c.class_row.ensures, c.result.ensures.0)
+    (applied_target _ _ c.args.rows.now c.args.h _ c.requires.1.1.0 c.requires.1.1.1 (sym c.suits.ensures ∙ c.if-not-suits.false))
 
 pub apply_target_spec : {M : Type 1} → statement M
 apply_target_spec =
@@ -46,7 +41,7 @@ apply_target_spec =
     (λ c κs. search rules)
     (λ c κs. search rules)
     suits-requires
-    returns
+    returns-then-not-suits
     (λ c. search rules)
     (λ c. search rules)
     result-requires
@@ -55,4 +50,4 @@ apply_target_spec =
     (λ c. search rules)
     (λ c κs. search rules)
     (λ c. search rules)
-    returns-2)
+    returns)

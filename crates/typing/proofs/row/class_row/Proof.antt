@@ -10,13 +10,12 @@ use Rattle.typing.proofs.row.class_row.Tie as tie
 
 join-requires : tie.Need-join-requires
 join-requires c κs =
-    let g = c.before.before.before.before.before.before.before.before in
-    (g.requires.0, (g.requires.1.0, omega (arith, c.before.before.before.clear.auto)))
+    (c.requires.0, (c.requires.1.0, omega (arith, c.clear.auto)))
 
 returns : tie.Need-returns
 returns c =
     let g = c.before.before.before.before.before.before.before.before.before.before.before in
-    c.before.before.join.ensures ∙ row_joined _ [] _ _ _ (c.before.before.before.before.before.before.clear.ensures ∙ row_empty _ _)
+    c.join.ensures ∙ row_joined _ [] _ _ _ (c.clear.ensures ∙ row_empty _ _)
 
 pub class_row_spec : {M : Type 1} → statement M
 class_row_spec = tie.close (tie.spec (λ c κs. search rules) join-requires (λ c. search rules) returns)

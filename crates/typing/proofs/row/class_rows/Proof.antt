@@ -18,54 +18,51 @@ use Rattle.typing.proofs.Classes.{class_rows_none, class_rows_more}
 use Rattle.typing.proofs.row.class_rows.Statement.{statement}
 use Rattle.typing.proofs.row.class_rows.Tie as tie
 
-abbrev invariant-loop : tie.invariant-loop
-invariant-loop bytes b scratch args rows₀ i₀ rows i = (i ≤ length args) × (length rows ≡ length rows₀) × Rows (model_of bytes) rows (class_types (take i args))
+abbrev invariant-loop-i : tie.invariant-loop-i
+invariant-loop-i bytes b scratch args rows₀ i₀ rows i = (i ≤ length args) × (length rows ≡ length rows₀) × Rows (model_of bytes) rows (class_types (take i args))
 
-abbrev decreases-loop : tie.decreases-loop
-decreases-loop bytes b scratch args rows₀ i₀ rows i = length args - i
+abbrev decreases-loop-i : tie.decreases-loop-i
+decreases-loop-i bytes b scratch args rows₀ i₀ rows i = length args - i
 
-class-row-requires : tie.Need-class-row-requires invariant-loop decreases-loop
+class_row-requires : tie.Need-class_row-requires invariant-loop-i decreases-loop-i
 unfolding byte
-class-row-requires c κs =
-    let s = c.before.before.before in
-    let g = s.before.before.before.before.before in
-    let counts = counts_of g.requires.0.opened in
-    let read = c.before.byte_at.ensures.0 in
-    let below = class_below _ _ g.requires.1.0 s.loop.i (omega arith) in
-    (g.requires.0, (omega arith, lent_long (row_bytes * s.loop.i) s.loop.rows row_bytes (omega arith)))
+class_row-requires c κs =
+    let counts = counts_of c.requires.0.opened in
+    let read = c.byte_at.ensures.0 in
+    let below = class_below _ _ c.requires.1.0 c.loop-i.i (omega arith) in
+    (c.requires.0, (omega arith, lent_long (row_bytes * c.loop-i.i) c.loop-i.rows row_bytes (omega arith)))
 
-loop-again : tie.Need-loop-preserved invariant-loop decreases-loop
+loop-i-preserved : tie.Need-loop-i-preserved invariant-loop-i decreases-loop-i
 unfolding byte
-loop-again c =
-    let s = c.before.before.before.before.before.before in
-    let read = c.before.before.before.before.byte_at.ensures.0 in
-    let back = stacked_back _ _ s.loop.i s.loop.rows _ (rw read at c.before.before.class-row.ensures) in (
+loop-i-preserved c =
+    let read = c.byte_at.ensures.0 in
+    let back = stacked_back _ _ c.loop-i.i c.loop-i.rows _ (rw read at c.class_row.ensures) in (
       omega arith,
-      ap length back ∙ stacked_length _ s.loop.rows _ s.loop.i (omega arith) ∙ s.loop.invariant.1,
-      rw back (class_rows_more _ _ s.loop.rows s.loop.i (omega arith) (omega arith) s.loop.invariant.2),
+      ap length back ∙ stacked_length _ c.loop-i.rows _ c.loop-i.i (omega arith) ∙ c.loop-i.invariant.1,
+      rw back (class_rows_more _ _ c.loop-i.rows c.loop-i.i (omega arith) (omega arith) c.loop-i.invariant.2),
     )
 
-returns : tie.Need-returns invariant-loop decreases-loop
+returns : tie.Need-returns invariant-loop-i decreases-loop-i
 returns c =
-    let l = c.before.loop in
-    let args = c.before.before.before.before.before.before.args.args.now in
+    let l = c.loop-i in
+    let args = c.args.args.now in
     rw (take_all l.i args (omega arith)) at l.invariant.2
 
 pub class_rows_spec : {M : Type 1} → statement M
 class_rows_spec =
     tie.close
     (tie.spec
-    invariant-loop
-    decreases-loop
-    (λ c. (omega arith, refl, class_rows_none _ c.before.before.before.before.args.args.now _))
+    invariant-loop-i
+    decreases-loop-i
+    (λ c. (omega arith, refl, class_rows_none _ c.args.args.now _))
     (λ c. search rules)
     (λ c κs. search rules)
     (λ c. search rules)
     (λ c. search rules)
     (λ c. search rules)
-    class-row-requires
+    class_row-requires
     (λ c. search rules)
     (λ c. search rules)
-    loop-again
-    (λ c. c.before.loop.invariant.1)
+    loop-i-preserved
+    (λ c. c.loop-i.invariant.1)
     returns)

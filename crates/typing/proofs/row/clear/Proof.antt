@@ -10,32 +10,31 @@ use Rattle.typing.proofs.Writing.{Writing, writing_none, writing_length, writing
 use Rattle.typing.proofs.row.clear.Statement.{statement}
 use Rattle.typing.proofs.row.clear.Tie as tie
 
-abbrev invariant-loop : tie.invariant-loop
-invariant-loop row₀ k₀ row k = Writing no_byte row₀ row k
+abbrev invariant-loop-k : tie.invariant-loop-k
+invariant-loop-k row₀ k₀ row k = Writing no_byte row₀ row k
 
-abbrev decreases-loop : tie.decreases-loop
-decreases-loop row₀ k₀ row k = row_bytes - k
+abbrev decreases-loop-k : tie.decreases-loop-k
+decreases-loop-k row₀ k₀ row k = row_bytes - k
 
-slice-write-row : tie.Need-slice-write-row invariant-loop decreases-loop
-slice-write-row c =
-    let s = c.before in
-    let same = writing_length _ _ s.before.requires s.loop.invariant in
+bounds-row-k : tie.Need-bounds-row-k invariant-loop-k decreases-loop-k
+bounds-row-k c =
+    let same = writing_length _ _ c.requires c.loop-k.invariant in
     omega arith
 
-loop-again : tie.Need-loop-preserved invariant-loop decreases-loop
+loop-k-preserved : tie.Need-loop-k-preserved invariant-loop-k decreases-loop-k
 unfolding no_byte
-loop-again c = let s = c.before in writing_more _ _ s.before.requires s.loop.invariant (search rules) 0 refl
+loop-k-preserved c = writing_more _ _ c.requires c.loop-k.invariant (search rules) 0 refl
 
 pub clear_spec : {M : Type 1} → statement M
 clear_spec =
     tie.close
     (tie.spec
-    invariant-loop
-    decreases-loop
+    invariant-loop-k
+    decreases-loop-k
     (λ c. writing_none _ _)
-    slice-write-row
+    bounds-row-k
     (λ c. search rules)
     (λ c. search rules)
-    loop-again
-    (λ c. let s = c.before in writing_length _ _ s.before.requires s.loop.invariant)
-    (λ c. let s = c.before in writing_all _ _ s.loop.invariant (search rules)))
+    loop-k-preserved
+    (λ c. writing_length _ _ c.requires c.loop-k.invariant)
+    (λ c. writing_all _ _ c.loop-k.invariant (search rules)))

@@ -15,54 +15,50 @@ use Rattle.typing.proofs.Writing.{Writing, writing_none, writing_length, writing
 use Rattle.typing.proofs.row.join.Statement.{statement}
 use Rattle.typing.proofs.row.join.Tie as tie
 
-abbrev invariant-loop : tie.invariant-loop
-invariant-loop bytes scratch c row₀ k₀ row k = Writing (joined_byte (model_of bytes) c row₀) row₀ row k
+abbrev invariant-loop-k : tie.invariant-loop-k
+invariant-loop-k bytes scratch c row₀ k₀ row k = Writing (joined_byte (model_of bytes) c row₀) row₀ row k
 
-abbrev decreases-loop : tie.decreases-loop
-decreases-loop bytes scratch c row₀ k₀ row k = row_bytes - k
+abbrev decreases-loop-k : tie.decreases-loop-k
+decreases-loop-k bytes scratch c row₀ k₀ row k = row_bytes - k
 
-slice-read-join-byte : tie.Need-slice-read-join-byte invariant-loop decreases-loop
-slice-read-join-byte c =
-    let s = c.before.before in
-    let same = writing_length _ _ s.before.before.before.before.requires.1.1 s.loop.invariant in
+bounds-row-k : tie.Need-bounds-row-k invariant-loop-k decreases-loop-k
+bounds-row-k c =
+    let same = writing_length _ _ c.requires.1.1 c.loop-k.invariant in
     omega arith
 
-join-byte-requires : tie.Need-join-byte-requires invariant-loop decreases-loop
-join-byte-requires c κs =
-    let p = c.before.before.before.before.before.before.requires in
+join_byte-v-requires : tie.Need-join_byte-v-requires invariant-loop-k decreases-loop-k
+join_byte-v-requires c κs =
+    let p = c.requires in
     (filled_long p.0.filled, (omega (arith, classes_fit p.0.opened), omega arith))
 
-slice-write-row : tie.Need-slice-write-row invariant-loop decreases-loop
-slice-write-row c =
-    let s = c.before.before.before in
-    let same = writing_length _ _ s.before.before.before.before.requires.1.1 s.loop.invariant in
+bounds-row-k-in-loop-k : tie.Need-bounds-row-k-in-loop-k invariant-loop-k decreases-loop-k
+bounds-row-k-in-loop-k c =
+    let same = writing_length _ _ c.requires.1.1 c.loop-k.invariant in
     omega arith
 
-loop-again : tie.Need-loop-preserved invariant-loop decreases-loop
+loop-k-preserved : tie.Need-loop-k-preserved invariant-loop-k decreases-loop-k
 unfolding joined_byte joined
-loop-again c =
-    let s = c.before.before.before in
-    let g = s.before.before.before.before in
-    let long = g.requires.1.1 in
-    writing_more _ _ long s.loop.invariant (search rules) _
-    (c.join-byte.ensures
-    ∙ ap₂ (λ (t : Bool) (old : ℕ). cond t 1 old) (entry_subclass g.requires.0 g.args.c s.loop.k (omega (arith, (counts_of g.requires.0.opened).classes)) (omega arith)) (writing_next _ _ long s.loop.invariant))
+loop-k-preserved c =
+    let long = c.requires.1.1 in
+    writing_more _ _ long c.loop-k.invariant (search rules) _
+    (c.join_byte-v.ensures
+    ∙ ap₂ (λ (t : Bool) (old : ℕ). cond t 1 old) (entry_subclass c.requires.0 c.args.c c.loop-k.k (omega (arith, (counts_of c.requires.0.opened).classes)) (omega arith)) (writing_next _ _ long c.loop-k.invariant))
 
-same_length : tie.Need-same-length invariant-loop decreases-loop
-same_length c = let s = c.before in writing_length _ _ s.before.before.before.before.requires.1.1 s.loop.invariant
+shape_of-row : tie.Need-shape_of-row invariant-loop-k decreases-loop-k
+shape_of-row c = writing_length _ _ c.requires.1.1 c.loop-k.invariant
 
 pub join_spec : {M : Type 1} → statement M
 join_spec =
     tie.close
     (tie.spec
-    invariant-loop
-    decreases-loop
+    invariant-loop-k
+    decreases-loop-k
     (λ c. writing_none _ _)
-    slice-read-join-byte
-    join-byte-requires
-    slice-write-row
+    bounds-row-k
+    join_byte-v-requires
+    bounds-row-k-in-loop-k
     (λ c. search rules)
     (λ c. search rules)
-    loop-again
-    same_length
-    (λ c. let s = c.before in writing_all _ _ s.loop.invariant (search rules)))
+    loop-k-preserved
+    shape_of-row
+    (λ c. writing_all _ _ c.loop-k.invariant (search rules)))

@@ -12,22 +12,22 @@ use Rattle.typing.proofs.row.join_byte.Statement.{statement}
 use Rattle.typing.proofs.row.join_byte.Tie as tie
 
 -- the entry that was asked, by the answer
-met : (c : tie.After-ancestry-of) (x : Ancestry) → c.ancestry-of.result ≡ x
-    → let a = c.before.before.args in
+met : (c : tie.After-ancestry_of) (x : Ancestry) → c.ancestry_of.result ≡ x
+    → let a = c.args in
     entry_at a.scratch.now a.c a.k ≡ is_under (ancestry_of x)
-met c = entry_by _ _ _ _ c.ancestry-of.ensures
+met c = entry_by _ _ _ _ c.ancestry_of.ensures
 
-returns : tie.Need-returns
+returns-in-Same : tie.Need-returns-in-Same
 unfolding is_under ancestry_of
-returns c = rw (met c.before.before Same c.enum_told.given.1)
+returns-in-Same c = rw (met c.before Same c.in-Same.is)
 
-returns-2 : tie.Need-returns-2
+returns-in-Heir : tie.Need-returns-in-Heir
 unfolding is_under ancestry_of
-returns-2 c = rw (met c.before.before Heir c.enum-told2.given.1)
+returns-in-Heir c = rw (met c.before Heir c.in-Heir.is)
 
-returns-3 : tie.Need-returns-3
+returns-in-Neither : tie.Need-returns-in-Neither
 unfolding is_under ancestry_of
-returns-3 c = rw (met c.before.before Neither c.enum-told3.given.1)
+returns-in-Neither c = rw (met c.before Neither c.in-Neither.is)
 
 pub join_byte_spec : {M : Type 1} → statement M
-join_byte_spec = tie.close (tie.spec (λ c κs. search rules) (λ c. search rules) (λ c. search rules) (λ c. search rules) returns returns-2 returns-3)
+join_byte_spec = tie.close (tie.spec (λ c κs. search rules) (λ c. search rules) (λ c. search rules) (λ c. search rules) returns-in-Same returns-in-Heir returns-in-Neither)

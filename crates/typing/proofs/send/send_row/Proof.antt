@@ -10,78 +10,67 @@ use Rattle.typing.proofs.Sends.{Sending, sending_none, sending_hit, sending_miss
 use Rattle.typing.proofs.send.send_row.Statement.{statement}
 use Rattle.typing.proofs.send.send_row.Tie as tie
 
-abbrev invariant-loop : tie.invariant-loop
-invariant-loop bytes b scratch rows f row₀ n found₀ s₀ row found s = (s ≤ b.signatures) × Sending (model_of bytes) rows f row₀ row found s
+abbrev invariant-loop-s : tie.invariant-loop-s
+invariant-loop-s bytes b scratch rows f row₀ n found₀ s₀ row found s = (s ≤ b.signatures) × Sending (model_of bytes) rows f row₀ row found s
 
-abbrev decreases-loop : tie.decreases-loop
-decreases-loop bytes b scratch rows f row₀ n found₀ s₀ row found s = b.signatures - s
+abbrev decreases-loop-s : tie.decreases-loop-s
+decreases-loop-s bytes b scratch rows f row₀ n found₀ s₀ row found s = b.signatures - s
 
-licenses-requires : tie.Need-licenses-requires invariant-loop decreases-loop
+licenses-requires : tie.Need-licenses-requires invariant-loop-s decreases-loop-s
 licenses-requires c κs =
-    let s = c.before.before in
-    let g = s.before.before.before.before.before.before.before.before.before.before in
-    let n = s.before.before.before.before.before.arity in
-    let counts = counts_of g.requires.0.opened in
-    (g.requires.0.opened, (omega arith, (n.ensures.0, (n.ensures.1, omega arith))))
+    let n = c.arity-n in
+    let counts = counts_of c.requires.0.opened in
+    (c.requires.0.opened, (omega arith, (n.ensures.0, (n.ensures.1, omega arith))))
 
-sig-result-requires : tie.Need-sig-result-requires invariant-loop decreases-loop
-sig-result-requires c κs =
-    let g = c.before.before.before.before.before.before.before.before.before.before.before.before.before.before in
-    (g.requires.0.opened, omega arith)
+sig_result-requires : tie.Need-sig_result-requires invariant-loop-s decreases-loop-s
+sig_result-requires c κs =
+    (c.requires.0.opened, omega arith)
 
-join-requires : tie.Need-join-requires invariant-loop decreases-loop
+join-requires : tie.Need-join-requires invariant-loop-s decreases-loop-s
 join-requires c κs =
-    let s = c.before.before.before.before.before.before in
-    let g = s.before.before.before.before.before.before.before.before.before.before in
-    let whole = s.loop.invariant.1.long in
-    let cleared = s.before.before.before.clear.auto in
-    (g.requires.0, (c.before.«sig_result_lem».ensures.1, omega (arith, cleared)))
+    let whole = c.loop-s.invariant.1.long in
+    let cleared = c.clear.auto in
+    (c.requires.0, (c.sig_result.ensures.1, omega (arith, cleared)))
 
-loop-again : tie.Need-loop-preserved invariant-loop decreases-loop
-loop-again c =
-    let s = c.before.before.before.before.before.before.before.before.before in
-    let license = c.before.before.before.before.before in
-    let result = c.before.before.before.before.«sig_result_lem» in (
+loop-s-preserved-then-licenses : tie.Need-loop-s-preserved-then-licenses invariant-loop-s decreases-loop-s
+loop-s-preserved-then-licenses c =
+    let result = c.sig_result in (
       omega arith,
-      sending_hit _ _ _ _ s.loop.row _ s.loop.found s.loop.s result.result s.loop.invariant.1 (rw license.if2.true at license.before.licenses.ensures)
-          result.ensures.0 c.before.before.join.auto.1.1.1.1.0 c.before.before.join.ensures,
+      sending_hit _ _ _ _ c.loop-s.row _ c.loop-s.found c.loop-s.s result.result c.loop-s.invariant.1 (rw c.if-licenses.true at c.licenses.ensures)
+          result.ensures.0 c.join.auto.row c.join.ensures,
     )
 
-loop-again-2 : tie.Need-loop-preserved-2 invariant-loop decreases-loop
-loop-again-2 c =
-    let s = c.before.before.before.before in
-    (omega arith, sending_miss _ _ _ _ _ _ _ s.loop.invariant.1 (rw c.if2.false at c.before.licenses.ensures))
+loop-s-preserved : tie.Need-loop-s-preserved invariant-loop-s decreases-loop-s
+loop-s-preserved c =
+    (omega arith, sending_miss _ _ _ _ _ _ _ c.loop-s.invariant.1 (rw c.if-licenses.false at c.licenses.ensures))
 
-same_length : tie.Need-same-length invariant-loop decreases-loop
-same_length c =
-    let s = c.before.before in
-    s.loop.invariant.1.long ∙ s.before.before.before.clear.auto.0
+shape_of-row : tie.Need-shape_of-row invariant-loop-s decreases-loop-s
+shape_of-row c =
+    c.loop-s.invariant.1.long ∙ c.clear.auto.row
 
-returns : tie.Need-returns invariant-loop decreases-loop
+returns : tie.Need-returns invariant-loop-s decreases-loop-s
 returns c =
-    let s = c.before.before in
-    let g = s.before.before.before.before.before.before.before.before.before.before in
-    let counts = counts_of g.requires.0.opened in
-    let all : s.loop.s ≡ (model_of g.args.bytes.now).signatures = omega arith in
-    sending_all _ _ _ _ _ _ _ s.before.before.before.clear.ensures (rw all at s.loop.invariant.1)
+    let counts = counts_of c.requires.0.opened in
+    let all : c.loop-s.s ≡ (model_of c.args.bytes.now).signatures = omega arith in
+    sending_all _ _ _ _ _ _ _ c.clear.ensures (rw all at c.loop-s.invariant.1)
 
 pub send_row_spec : {M : Type 1} → statement M
 send_row_spec =
     tie.close
     (tie.spec
-    invariant-loop
-    decreases-loop
+    invariant-loop-s
+    decreases-loop-s
     (λ c κs. search rules)
     (λ c κs. search rules)
-    (λ c. (omega arith, sending_none _ _ _ _ _ c.before.before.clear.ensures))
+    (λ c. (omega arith, sending_none _ _ _ _ _ c.clear.ensures))
     licenses-requires
-    sig-result-requires
+    sig_result-requires
     join-requires
     (λ c. search rules)
     (λ c. search rules)
-    loop-again
+    loop-s-preserved-then-licenses
     (λ c. search rules)
     (λ c. search rules)
-    loop-again-2
-    same_length
+    loop-s-preserved
+    shape_of-row
     returns)

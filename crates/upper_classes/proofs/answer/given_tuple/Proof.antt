@@ -12,22 +12,19 @@ use Rattle.upper_classes.proofs.answer.given_tuple.Tie as tie
 
 lookup-requires : tie.Need-lookup-requires
 lookup-requires c κs =
-    let p = c.before.before.before.before.before.before.requires in
-    (p.0, (c.before.index-methods.ensures, below_arguments p.1.0 p.1.1))
+    let p = c.requires in
+    (p.0, (c.index_methods-index.ensures, below_arguments p.1.0 p.1.1))
 
-given-method-requires : tie.Need-given-method-requires
-given-method-requires c κs =
-    let u = c.before.before.before in
-    let p = u.before.before.before.before.before.before.before.requires in
-    (p.0, (p.1.0, record { tuple = _; below = p.1.1; finds = sym u.lookup.ensures ∙ ap found_of c.before.m.given.1 }))
+given_method-requires : tie.Need-given_method-requires
+given_method-requires c κs =
+    let p = c.requires in
+    (p.0, (p.1.0, record { tuple = _; below = p.1.1; finds = sym c.lookup.ensures ∙ ap found_of c.in-Method.is }))
 
-returns : tie.Need-returns
-returns c =
-    let u = c.before.before in
-    let p = u.before.before.before.before.before.before.before.requires in
-    let failed = c.enum_told.given in
-    fails_answer _ _ _ _ p.1.1 (ap is_failure (sym u.lookup.ensures ∙ ap found_of failed.1) ∙ is_failure_lem failed.0.0)
+returns-in-Fails : tie.Need-returns-in-Fails
+returns-in-Fails c =
+    let p = c.requires in
+    fails_answer _ _ _ _ p.1.1 (ap is_failure (sym c.lookup.ensures ∙ ap found_of c.in-Fails.is) ∙ is_failure_lem c.in-Fails.field-0)
 
 pub given_tuple_spec : {M : Type 1} → statement M
 given_tuple_spec =
-    tie.close (tie.spec (λ c κs. search rules) (λ c. search rules) lookup-requires (λ c. search rules) (λ c. search rules) given-method-requires returns (λ c. search rules))
+    tie.close (tie.spec (λ c κs. search rules) (λ c. search rules) lookup-requires (λ c. search rules) (λ c. search rules) given_method-requires returns-in-Fails (λ c. search rules))

@@ -6,7 +6,6 @@ use mathlib.Core.Path.{◌≡◌, sym, subst, ◌∙◌}
 use mathlib.Core.List.{[], ◌∷◌}
 use lib.ListN.{length, drop, length-append}
 use lib.Seq.{length-take-le, take_at}
-use borrow.Author.Tests.{not-true, not-false}
 use Rattle.rules.specs.Layout.{places}
 use Rattle.rules.specs.Model.{model_of}
 use Rattle.rules.specs.Coverage.{Below}
@@ -19,36 +18,30 @@ use Rattle.upper_classes.proofs.answer.given_upper.Tie as tie
 few : (c : tie.Start) → length c.args.upper.now ≤ places
 few c = arguments_places c.requires.0.opened c.requires.1
 
-least-below-requires : tie.Need-least-below-requires
-least-below-requires c κs =
-    let s = c.before.before.before.before in
-    (s.requires.0, (s.requires.1.classes, length-take-le _ _ (few s)))
+least_below-requires : tie.Need-least_below-requires
+least_below-requires c κs =
+    (c.requires.0, (c.requires.1.classes, length-take-le _ _ (few c.before.before.before.before)))
 
-returns : tie.Need-returns
-returns c = upper_abstract _ _ _ (sym c.before.before.least-below.ensures.1.0 ∙ not-true _ c.if1.true)
+returns-then-not-least_below : tie.Need-returns-then-not-least_below
+returns-then-not-least_below c = upper_abstract _ _ _ (sym c.least_below.ensures.1.0 ∙ c.if-not-least_below.true)
 
 -- the tuple written is as long as there are upper classes
-long : (c : tie.After-least-below) → length c.least-below.new.1.1.1.1.0 ≡ length c.before.before.before.before.before.args.upper.now
-long c = c.least-below.ensures.0 ∙ length-take-le _ (0 ∷ 0 ∷ 0 ∷ []) (few c.before.before.before.before.before)
+long : (c : tie.After-least_below) → length c.least_below.new.least ≡ length c.args.upper.now
+long c = c.least_below.ensures.0 ∙ length-take-le _ (0 ∷ 0 ∷ 0 ∷ []) (few c.before.before.before.before.before)
 
-array-share-prefix-least : tie.Need-array-share-prefix-least
-array-share-prefix-least c =
-    let u = c.before.before in
-    let n = length u.before.before.before.before.before.args.upper.now in
-    omega (arith, length-append u.least-below.new.1.1.1.1.0 (drop n (0 ∷ 0 ∷ 0 ∷ [])), long u)
+slice_bounds-least-end-2 : tie.Need-slice_bounds-least-end-2
+slice_bounds-least-end-2 c =
+    let n = length c.args.upper.now in
+    omega (arith, length-append c.least_below.new.least (drop n (0 ∷ 0 ∷ 0 ∷ [])), long c.before.before)
 
-given-tuple-requires : tie.Need-given-tuple-requires
-given-tuple-requires c κs =
-    let e = c.before in
-    let u = e.before.before in
-    let s = u.before.before.before.before.before in
-    let same = take_at u.least-below.new.1.1.1.1.0 _ _ (long u) in
-    (s.requires.0, (s.requires.1, subst (Below (model_of s.args.bytes.now) s.args.upper.now) (sym same) (u.least-below.ensures.1.1 (not-false _ e.if1.false))))
+given_tuple-requires : tie.Need-given_tuple-requires
+given_tuple-requires c κs =
+    let same = take_at c.least_below.new.least _ _ (long c.before.before.before) in
+    (c.requires.0, (c.requires.1, subst (Below (model_of c.args.bytes.now) c.args.upper.now) (sym same) (c.least_below.ensures.1.1 (c.if-not-least_below.false))))
 
-returns-2 : tie.Need-returns-2
-returns-2 c =
-    let e = c.before.before in
-    c.given-tuple.ensures ∙ upper_answered _ _ _ (sym e.before.before.least-below.ensures.1.0 ∙ not-false _ e.if1.false)
+returns : tie.Need-returns
+returns c =
+    c.given_tuple.ensures ∙ upper_answered _ _ _ (sym c.least_below.ensures.1.0 ∙ c.if-not-least_below.false)
 
 pub given_upper_spec : {M : Type 1} → statement M
 given_upper_spec =
@@ -56,9 +49,9 @@ given_upper_spec =
     (tie.spec
     (λ c. few c.before.before.before)
     (λ c. sym (length-take-le _ _ (few c.before.before.before.before)))
-    least-below-requires
-    returns
-    array-share-prefix-least
-    (λ c. sym (length-take-le _ _ (array-share-prefix-least c.before)))
-    given-tuple-requires
-    returns-2)
+    least_below-requires
+    returns-then-not-least_below
+    slice_bounds-least-end-2
+    (λ c. sym (length-take-le _ _ (slice_bounds-least-end-2 c.before)))
+    given_tuple-requires
+    returns)

@@ -8,29 +8,25 @@ use Rattle.upper_classes.proofs.Answers.{rough_absent, rough_sent}
 use Rattle.upper_classes.proofs.answer.rough_in.Statement.{statement}
 use Rattle.upper_classes.proofs.answer.rough_in.Tie as tie
 
-array-share-prefix-classes : tie.Need-array-share-prefix-classes
-array-share-prefix-classes c = let e = c.before in (e.before.before.classes-of.ensures.1.0 (not-false _ e.if1.false)).within
+slice_bounds-classes-end : tie.Need-slice_bounds-classes-end
+slice_bounds-classes-end c = (c.classes_of-args.ensures.1.0 ((not-false _ c.if-not-args.false))).within
 
-given-upper-requires : tie.Need-given-upper-requires
-given-upper-requires c κs =
-    let e = c.before.before in
-    let r = e.before.before in
-    (r.before.before.before.requires, (r.classes-of.ensures.1.0 (not-false _ e.if1.false)).arguments)
+given_upper-requires : tie.Need-given_upper-requires
+given_upper-requires c κs =
+    (c.requires, (c.classes_of-args.ensures.1.0 ((not-false _ c.if-not-args.false))).arguments)
 
-returns-2 : tie.Need-returns-2
-returns-2 c =
-    let e = c.before.before.before in
-    let r = e.before.before in
-    let sent = not-false _ e.if1.false in
-    c.given-upper.ensures ∙ rough_sent _ _ _ (sym r.classes-of.ensures.0 ∙ sent) (r.classes-of.ensures.1.0 sent)
+returns : tie.Need-returns
+returns c =
+    let sent = (not-false _ c.if-not-args.false) in
+    c.given_upper.ensures ∙ rough_sent _ _ _ (sym c.classes_of-args.ensures.0 ∙ sent) (c.classes_of-args.ensures.1.0 sent)
 
 pub rough_in_spec : {M : Type 1} → statement M
 rough_in_spec =
     tie.close
     (tie.spec
     (λ c κs. search rules)
-    (λ c. rough_absent _ _ _ (sym c.before.before.classes-of.ensures.0 ∙ not-true _ c.if1.true))
-    array-share-prefix-classes
-    (λ c. sym (length-take-le _ _ (array-share-prefix-classes c.before)))
-    given-upper-requires
-    returns-2)
+    (λ c. rough_absent _ _ _ (sym c.classes_of-args.ensures.0 ∙ (not-true _ c.if-not-args.true)))
+    slice_bounds-classes-end
+    (λ c. sym (length-take-le _ _ (slice_bounds-classes-end c.before)))
+    given_upper-requires
+    returns)

@@ -14,14 +14,13 @@ use Rattle.upper_classes.proofs.answer.some_stops.Tie as tie
 few : (c : tie.Start) → length c.args.upper.now ≤ places
 few c = arguments_places c.requires.0.opened c.requires.1.1.1
 
-search-below-requires : tie.Need-search-below-requires
-search-below-requires c κs =
-    let s = c.before.before.before.before in
-    let p = s.requires in
-    (p.0, (p.1.0, (p.1.1.0, (p.1.1.1, length-take-le _ _ (few s)))))
+search_below-requires : tie.Need-search_below-requires
+search_below-requires c κs =
+    let p = c.requires in
+    (p.0, (p.1.0, (p.1.1.0, (p.1.1.1, length-take-le _ _ (few c.before.before.before.before)))))
 
 returns : tie.Need-returns
-returns c = stops_any _ _ _ _ _ c.before.search-below.result c.before.search-below.ensures.1
+returns c = stops_any _ _ _ _ _ c.search_below.result c.search_below.ensures.1
 
 pub some_stops_spec : {M : Type 1} → statement M
 some_stops_spec =
@@ -29,5 +28,5 @@ some_stops_spec =
     (tie.spec
     (λ c. few c.before.before.before)
     (λ c. sym (length-take-le _ _ (few c.before.before.before.before)))
-    search-below-requires
+    search_below-requires
     returns)

@@ -3,7 +3,7 @@
 use Prim.Native.Nat.{◌-◌, ◌≤◌, ◌<◌}
 use native.Mathlib.Omega.{arith}
 use mathlib.Core.Path.{◌≡◌, refl, sym, ap, ◌∙◌}
-use mathlib.Core.Bool.{true, false, false≢true}
+use mathlib.Core.Bool.{false≢true}
 use lib.ListN.{length, get_or, length-set}
 use borrow.Author.Count.{below_none}
 use Rattle.rules.specs.Bytes.{byte}
@@ -18,85 +18,76 @@ use Rattle.upper_classes.proofs.Lowest.{lowest_is, lowest_none_under, Candidates
 use Rattle.upper_classes.proofs.least.least_below.Statement.{statement}
 use Rattle.upper_classes.proofs.least.least_below.Tie as tie
 
-abbrev invariant-loop : tie.invariant-loop
-invariant-loop bytes b scratch upper least₀ classes i₀ least i = (i ≤ length upper) × (length least ≡ length least₀) × Candidates (model_of bytes) upper least i
+abbrev invariant-loop-i : tie.invariant-loop-i
+invariant-loop-i bytes b scratch upper least₀ classes i₀ least i = (i ≤ length upper) × (length least ≡ length least₀) × Candidates (model_of bytes) upper least i
 
-abbrev decreases-loop : tie.decreases-loop
-decreases-loop bytes b scratch upper least₀ classes i₀ least i = length upper - i
+abbrev decreases-loop-i : tie.decreases-loop-i
+decreases-loop-i bytes b scratch upper least₀ classes i₀ least i = length upper - i
 
-lowest-under-requires : tie.Need-lowest-under-requires invariant-loop decreases-loop
+lowest_under-k-requires : tie.Need-lowest_under-k-requires invariant-loop-i decreases-loop-i
 unfolding byte
-lowest-under-requires c κs =
-    let l = c.before.before in
-    let p = l.before.before.before.before.before.requires in
+lowest_under-k-requires c κs =
+    let p = c.requires in
     let counts = counts_of p.0.opened in
-    (p.0, omega (arith, c.byte_at.ensures.0, class_below _ _ p.1.0 l.loop.i (omega arith)))
+    (p.0, omega (arith, c.byte_at.ensures.0, class_below _ _ p.1.0 c.loop-i.i (omega arith)))
 
 -- the class written, or the count of classes, by the definition
-met : (c : tie.After-lowest-under invariant-loop decreases-loop)
-    → let l = c.before.before.before in
-    let a = l.before.before.before.before.before.args in
-    c.lowest-under.result ≡ lowest_under (model_of a.bytes.now) (get_or a.upper.now l.loop.i 0)
+met : (c : tie.After-lowest_under-k invariant-loop-i decreases-loop-i)
+    → let a = c.args in
+    c.lowest_under-k.result ≡ lowest_under (model_of a.bytes.now) (get_or a.upper.now c.loop-i.i 0)
 unfolding byte
 met c =
-    let l = c.before.before.before in
-    let a = l.before.before.before.before.before.args in
-    c.lowest-under.ensures ∙ ap (lowest_under (model_of a.bytes.now)) c.before.byte_at.ensures.0
+    let a = c.args in
+    c.lowest_under-k.ensures ∙ ap (lowest_under (model_of a.bytes.now)) c.byte_at.ensures.0
 
 -- there is room for it
-within : (c : tie.Else1 invariant-loop decreases-loop) → let l = c.before.before.before.before in l.loop.i < length l.loop.least
+within : (c : tie.Else-classes-k invariant-loop-i decreases-loop-i) → c.loop-i.i < length c.loop-i.least
 within c =
-    let l = c.before.before.before.before in
-    omega (arith, l.loop.invariant.1, l.before.before.before.before.before.requires.1.1)
+    omega (arith, c.loop-i.invariant.1, c.requires.1.1)
 
-returns : tie.Need-returns invariant-loop decreases-loop
-returns c =
-    let u = c.before in
-    let l = u.before.before.before in
-    let p = l.before.before.before.before.before.requires in
+returns-then-classes-k : tie.Need-returns-then-classes-k invariant-loop-i decreases-loop-i
+returns-then-classes-k c =
+    let p = c.requires in
     let counts = counts_of p.0.opened in
-    let a = l.before.before.before.before.before.args in
-    let none = lowest_none_under (model_of a.bytes.now) (get_or a.upper.now l.loop.i 0) (omega (arith, met u, c.if1.true)) in (
-      l.loop.invariant.1,
-      (sym (every_broken (has_concrete _) _ 0 l.loop.i (omega arith) none), λ e. absurd (false≢true e)),
+    let a = c.args in
+    let none = lowest_none_under (model_of a.bytes.now) (get_or a.upper.now c.loop-i.i 0) (omega (arith, met c.before, c.if-classes-k.true)) in (
+      c.loop-i.invariant.1,
+      (sym (every_broken (has_concrete _) _ 0 c.loop-i.i (omega arith) none), λ e. absurd (false≢true e)),
     )
 
-loop-again : tie.Need-loop-preserved invariant-loop decreases-loop
-loop-again c =
-    let u = c.before in
-    let l = u.before.before.before in
-    let p = l.before.before.before.before.before.requires in
-    let a = l.before.before.before.before.before.args in
+loop-i-preserved : tie.Need-loop-i-preserved invariant-loop-i decreases-loop-i
+loop-i-preserved c =
+    let p = c.requires in
+    let a = c.args in
     let counts = counts_of p.0.opened in
     let room = within c in (
       omega arith,
-      length-set l.loop.least l.loop.i _ ∙ l.loop.invariant.1,
-      candidates_more (model_of a.bytes.now) a.upper.now l.loop.least l.loop.i u.lowest-under.result room l.loop.invariant.2 (rw (met u) (lowest_is (model_of a.bytes.now) (get_or a.upper.now l.loop.i 0) (omega (arith, met u, c.if1.false)))),
+      length-set c.loop-i.least c.loop-i.i _ ∙ c.loop-i.invariant.1,
+      candidates_more (model_of a.bytes.now) a.upper.now c.loop-i.least c.loop-i.i c.lowest_under-k.result room c.loop-i.invariant.2 (rw (met c.before) (lowest_is (model_of a.bytes.now) (get_or a.upper.now c.loop-i.i 0) (omega (arith, met c.before, c.if-classes-k.false)))),
     )
 
-returns-2 : tie.Need-returns-2 invariant-loop decreases-loop
-returns-2 c =
-    let l = c.before.loop in
-    let s = c.before.before.before.before.before.before in
-    let all : l.i ≡ length s.args.upper.now = omega (arith, l.invariant.0) in
-    let below = places_below (model_of s.args.bytes.now) s.args.upper.now l.least (l.invariant.1 ∙ s.requires.1.1) (λ j h. l.invariant.2 j (omega (arith, all))) in
+returns : tie.Need-returns invariant-loop-i decreases-loop-i
+returns c =
+    let l = c.loop-i in
+    let all : l.i ≡ length c.args.upper.now = omega (arith, l.invariant.0) in
+    let below = places_below (model_of c.args.bytes.now) c.args.upper.now l.least (l.invariant.1 ∙ c.requires.1.1) (λ j h. l.invariant.2 j (omega (arith, all))) in
     (l.invariant.1, (sym (below_concrete _ _ _ below), λ e. below))
 
 pub least_below_spec : {M : Type 1} → statement M
 least_below_spec =
     tie.close
     (tie.spec
-    invariant-loop
-    decreases-loop
+    invariant-loop-i
+    decreases-loop-i
     (λ c. (omega arith, refl, below_none _))
-    (λ c κs. c.loop-test.true)
-    lowest-under-requires
-    (λ c. c.before.before.before.before.loop.invariant.1)
-    returns
-    (λ c. omega (arith, c.if1.false, (placed_of c.before.before.before.before.before.before.before.before.before.requires.0.opened).classes_limit))
+    (λ c κs. c.loop-i-test.true)
+    lowest_under-k-requires
+    (λ c. c.loop-i.invariant.1)
+    returns-then-classes-k
+    (λ c. omega (arith, c.if-classes-k.false, (placed_of c.requires.0.opened).classes_limit))
     within
     (λ c. omega arith)
     (λ c. omega arith)
-    loop-again
-    (λ c. c.before.loop.invariant.1)
-    returns-2)
+    loop-i-preserved
+    (λ c. c.loop-i.invariant.1)
+    returns)

@@ -12,42 +12,39 @@ use Rattle.upper_classes.proofs.Lowest.{lowest_found, lowest_missing}
 use Rattle.upper_classes.proofs.least.lowest_under.Statement.{statement}
 use Rattle.upper_classes.proofs.least.lowest_under.Tie as tie
 
-abbrev invariant-loop : tie.invariant-loop
-invariant-loop bytes b scratch c classes k₀ k = (k ≤ b.classes) × ((j : ℕ) → j < k → candidate_class (model_of bytes) c j ≡ false)
+abbrev invariant-loop-k : tie.invariant-loop-k
+invariant-loop-k bytes b scratch c classes k₀ k = (k ≤ b.classes) × ((j : ℕ) → j < k → candidate_class (model_of bytes) c j ≡ false)
 
-abbrev decreases-loop : tie.decreases-loop
-decreases-loop bytes b scratch c classes k₀ k = b.classes - k
+abbrev decreases-loop-k : tie.decreases-loop-k
+decreases-loop-k bytes b scratch c classes k₀ k = b.classes - k
 
-is-candidate-requires : tie.Need-is-candidate-requires invariant-loop decreases-loop
-is-candidate-requires c κs = let p = c.before.before.before.before.requires in (p.0, (p.1, omega arith))
+is_candidate-requires : tie.Need-is_candidate-requires invariant-loop-k decreases-loop-k
+is_candidate-requires c κs = let p = c.requires in (p.0, (p.1, omega arith))
 
-returns : tie.Need-returns invariant-loop decreases-loop
+returns-then-is_candidate : tie.Need-returns-then-is_candidate invariant-loop-k decreases-loop-k
+returns-then-is_candidate c =
+    let counts = counts_of c.requires.0.opened in
+    lowest_found _ _ c.loop-k.k (omega arith) (sym c.is_candidate.ensures ∙ c.if-is_candidate.true) c.loop-k.invariant.1
+
+loop-k-preserved : tie.Need-loop-k-preserved invariant-loop-k decreases-loop-k
+loop-k-preserved c =
+    (omega arith, below_more _ _ c.loop-k.invariant.1 (sym c.is_candidate.ensures ∙ c.if-is_candidate.false))
+
+returns : tie.Need-returns invariant-loop-k decreases-loop-k
 returns c =
-    let l = c.before.before.before in
-    let counts = counts_of l.before.before.before.requires.0.opened in
-    lowest_found _ _ l.loop.k (omega arith) (sym c.before.is-candidate.ensures ∙ c.if1.true) l.loop.invariant.1
-
-loop-again : tie.Need-loop-preserved invariant-loop decreases-loop
-loop-again c =
-    let l = c.before.before.before in
-    (omega arith, below_more _ _ l.loop.invariant.1 (sym c.before.is-candidate.ensures ∙ c.if1.false))
-
-returns-2 : tie.Need-returns-2 invariant-loop decreases-loop
-returns-2 c =
-    let l = c.before in
-    let counts = counts_of l.before.before.before.requires.0.opened in
-    counts.classes ∙ lowest_missing _ _ (λ j h. l.loop.invariant.1 j (omega (arith, l.loop.invariant.0)))
+    let counts = counts_of c.requires.0.opened in
+    counts.classes ∙ lowest_missing _ _ (λ j h. c.loop-k.invariant.1 j (omega (arith, c.loop-k.invariant.0)))
 
 pub lowest_under_spec : {M : Type 1} → statement M
 lowest_under_spec =
     tie.close
     (tie.spec
-    invariant-loop
-    decreases-loop
+    invariant-loop-k
+    decreases-loop-k
     (λ c. (omega arith, below_none _))
-    is-candidate-requires
-    returns
+    is_candidate-requires
+    returns-then-is_candidate
     (λ c. omega arith)
     (λ c. omega arith)
-    loop-again
-    returns-2)
+    loop-k-preserved
+    returns)

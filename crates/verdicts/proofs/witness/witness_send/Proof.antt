@@ -11,64 +11,46 @@ use Rattle.verdicts.proofs.Answered.{witness_unsent, witness_apart, witness_judg
 use Rattle.verdicts.proofs.witness.witness_send.Statement.{statement}
 use Rattle.verdicts.proofs.witness.witness_send.Tie as tie
 
-returns : tie.Need-returns
-returns c =
-    let r = c.before.before in
-    let p = r.before.before.before.requires in
-    witness_unsent p.0.opened _ _ _ p.1.0 p.1.1 (sym r.classes-of.ensures.0 ∙ not-true _ c.if1.true)
+returns-then-not-args : tie.Need-returns-then-not-args
+returns-then-not-args c =
+    let p = c.requires in
+    witness_unsent p.0.opened _ _ _ p.1.0 p.1.1 (sym c.classes_of-args.ensures.0 ∙ (not-true _ c.if-not-args.true))
 
-array-share-prefix-classes : tie.Need-array-share-prefix-classes
-array-share-prefix-classes c = let e = c.before in (e.before.before.classes-of.ensures.1.0 (not-false _ e.if1.false)).within
+slice_bounds-classes-end : tie.Need-slice_bounds-classes-end
+slice_bounds-classes-end c = (c.classes_of-args.ensures.1.0 ((not-false _ c.if-not-args.false))).within
 
-is-witness-requires : tie.Need-is-witness-requires
-is-witness-requires c κs =
-    let e = c.before.before in
-    let r = e.before.before in
-    let p = r.before.before.before.requires in
-    (p.0, (p.1.0, rw p.1.1 at (r.classes-of.ensures.1.0 (not-false _ e.if1.false)).arguments))
+is_witness-requires : tie.Need-is_witness-requires
+is_witness-requires c κs =
+    let p = c.requires in
+    (p.0, (p.1.0, rw p.1.1 at (c.classes_of-args.ensures.1.0 ((not-false _ c.if-not-args.false))).arguments))
 
-returns-2 : tie.Need-returns-2
-returns-2 c =
-    let w = c.before in
-    let e = w.before.before.before in
-    let r = e.before.before in
-    let p = r.before.before.before.requires in
-    let sent = not-false _ e.if1.false in
-    witness_apart p.0.opened _ _ _ p.1.0 p.1.1 (sym r.classes-of.ensures.0 ∙ sent) (r.classes-of.ensures.1.0 sent)
-    (sym w.is-witness.ensures ∙ not-true _ c.if2.true)
+returns-then-not-is_witness : tie.Need-returns-then-not-is_witness
+returns-then-not-is_witness c =
+    let p = c.requires in
+    let sent = (not-false _ c.if-not-args.false) in
+    witness_apart p.0.opened _ _ _ p.1.0 p.1.1 (sym c.classes_of-args.ensures.0 ∙ sent) (c.classes_of-args.ensures.1.0 sent)
+    (sym c.is_witness.ensures ∙ c.if-not-is_witness.true)
 
-array-share-prefix-classes-2 : tie.Need-array-share-prefix-classes-2
-array-share-prefix-classes-2 c = array-share-prefix-classes c.before.before.before
+slice_bounds-classes-end-2 : tie.Need-slice_bounds-classes-end-2
+slice_bounds-classes-end-2 c = slice_bounds-classes-end c.before.before.before
 
-returns-3 : tie.Need-returns-3
-returns-3 c =
-    let a = c.before.before in
-    let d = a.before.before in
-    let w = d.before in
-    let e = w.before.before.before in
-    let r = e.before.before in
-    let p = r.before.before.before.requires in
-    let sent = not-false _ e.if1.false in
-    witness_judged p.0.opened _ _ _ p.1.0 p.1.1 (sym r.classes-of.ensures.0 ∙ sent) (r.classes-of.ensures.1.0 sent)
-    (sym w.is-witness.ensures ∙ not-false _ d.if2.false)
-    (not_refused _ _ _ (sym (ap judgement_of c.enum_told.given.1) ∙ a.judge.ensures))
+returns-in-Holds : tie.Need-returns-in-Holds
+returns-in-Holds c =
+    let p = c.requires in
+    let sent = (not-false _ c.if-not-args.false) in
+    witness_judged p.0.opened _ _ _ p.1.0 p.1.1 (sym c.classes_of-args.ensures.0 ∙ sent) (c.classes_of-args.ensures.1.0 sent)
+    (sym c.is_witness.ensures ∙ c.if-not-is_witness.false)
+    (not_refused _ _ _ (sym (ap judgement_of c.in-Holds.is) ∙ c.judge.ensures))
 
-returns-4 : tie.Need-returns-4
-returns-4 c =
-    let f = c.before in
-    let a = f.before.before in
-    let d = a.before.before in
-    let w = d.before in
-    let e = w.before.before.before in
-    let r = e.before.before in
-    let g = r.before.before.before in
-    let p = g.requires in
-    let sent = not-false _ e.if1.false in
-    let kept = sym r.classes-of.ensures.0 ∙ sent in
-    let passes = r.classes-of.ensures.1.0 sent in
+returns-in-Fails : tie.Need-returns-in-Fails
+returns-in-Fails c =
+    let p = c.requires in
+    let sent = (not-false _ c.if-not-args.false) in
+    let kept = sym c.classes_of-args.ensures.0 ∙ sent in
+    let passes = c.classes_of-args.ensures.1.0 sent in
     witness_judged p.0.opened _ _ _ p.1.0 p.1.1 kept passes
-    (sym w.is-witness.ensures ∙ not-false _ d.if2.false)
-    (is_refused _ _ _ (witness_send p.0.opened _ _ (tuple_of g.args.send) p.1.0 p.1.1 kept passes refl) (sym (ap judgement_of f.failure.given.1) ∙ a.judge.ensures))
+    (sym c.is_witness.ensures ∙ c.if-not-is_witness.false)
+    (is_refused _ _ _ (witness_send p.0.opened _ _ (tuple_of c.args.send) p.1.0 p.1.1 kept passes refl) (sym (ap judgement_of c.in-Fails.is) ∙ c.judge.ensures))
 
 pub witness_send_spec : {M : Type 1} → statement M
-witness_send_spec = tie.close (tie.spec (λ c κs. search rules) returns array-share-prefix-classes (λ c. sym (length-take-le _ _ (array-share-prefix-classes c.before))) is-witness-requires returns-2 array-share-prefix-classes-2 (λ c. sym (length-take-le _ _ (array-share-prefix-classes-2 c.before))) (λ c κs. is-witness-requires c.before.before.before κs) (λ c. search rules) (λ c. search rules) returns-3 returns-4)
+witness_send_spec = tie.close (tie.spec (λ c κs. search rules) returns-then-not-args slice_bounds-classes-end (λ c. sym (length-take-le _ _ (slice_bounds-classes-end c.before))) is_witness-requires returns-then-not-is_witness slice_bounds-classes-end-2 (λ c. sym (length-take-le _ _ (slice_bounds-classes-end-2 c.before))) (λ c κs. is_witness-requires c.before.before.before κs) (λ c. search rules) (λ c. search rules) returns-in-Holds returns-in-Fails)

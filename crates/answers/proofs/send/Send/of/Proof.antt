@@ -11,7 +11,7 @@ use Rattle.answers.proofs.send.Send.of.Tie as tie
 returns : tie.Need-returns
 returns c =
     let s = c.before.before.before.before in
-    rw (c.before.before.class_at.ensures.0, c.before.class-at2.ensures.0, c.class-at3.ensures.0)
+    rw (c.before.before.class_at-a0.ensures.0, c.before.class_at-a1.ensures.0, c.class_at-a2.ensures.0)
     (ap (λ (l : List ℕ). s.args.function ∷ l) (padded_places s.args.args.now s.requires))
 
 pub of_spec : {M : Type 1} → statement M

@@ -11,12 +11,12 @@ returns : tie.Need-returns
 unfolding class_count function_count signature_count method_count
 returns c =
     let d = c.before in
-    let code = d.counted6.ensures in
-    let methods = d.before.counted5.ensures in
-    let signatures = d.before.before.counted4.ensures in
-    let functions = d.before.before.before.counted3.ensures in
-    let parents = d.before.before.before.before.counted2.ensures in
-    let classes = d.before.before.before.before.before.counted.ensures in
+    let code = d.counted-code.ensures in
+    let methods = d.before.counted-methods.ensures in
+    let signatures = d.before.before.counted-signatures.ensures in
+    let functions = d.before.before.before.counted-functions.ensures in
+    let parents = d.before.before.before.before.counted-parents.ensures in
+    let classes = d.before.before.before.before.before.counted-classes.ensures in
     rw c.new.ensures
     (record {
       classes = classes.records;

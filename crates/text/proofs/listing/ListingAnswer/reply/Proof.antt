@@ -12,5 +12,5 @@ reply_spec =
     (λ c κs. search rules)
     (λ c. search rules)
     (λ c κs. search rules)
-    (λ c. rw c.before.before.self.given.1 c.pair.ensures)
-    (λ c. rw c.before.enum_told.given.1 c.pair2.ensures))
+    (λ c. rw c.in-Written.is c.pair.ensures)
+    (λ c. rw c.in-Short.is c.pair-in-Short.ensures))
