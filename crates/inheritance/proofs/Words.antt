@@ -1,44 +1,22 @@
 -- Rows of classes as words of bits: the row of one class, rows with the same words, and one row put among all.
 -- Assumes nothing.
-use Prim.Native.Nat.{ℕ, zero, suc, ◌+◌, ◌*◌, ◌/◌, ◌%◌, ◌^◌, ◌<◌}
-use native.Mathlib.Nat.{zero-add, add-zero, one-mul}
+use Prim.Native.Nat.{ℕ, zero, suc, ◌+◌, ◌*◌, ◌/◌, ◌%◌, ◌<◌}
+use native.Mathlib.Nat.{zero-add, add-zero}
 use native.Mathlib.Omega.{arith}
 use mathlib.Core.Path.{◌≡◌, sym, ap, ◌∙◌}
-use mathlib.Core.Bool.{true, false}
-use mathlib.Core.Logic.{◌⊎◌, inl, inr}
+use mathlib.Core.Bool.{false}
 use mathlib.Core.List.{List}
-use lib.Dec.{eqb}
 use lib.ListN.{length, get_or, set, replicate, length-set, get_or-replicate}
-use lib.Pow.{shl_exact}
 use lib.Seq.{get_or-set_same, get_or-set_other}
-use borrow.Author.Tests.{eqb-true, eqb-false, ne_eqb}
 use Rattle.rules.specs.Layout.{max_classes}
 use Rattle.rules.specs.Bits.{bit_at, in_set}
-use Rattle.rules.proofs.Lists.{test}
-use Rattle.rules.proofs.Bits.{same_test, bit_zero, bit_power}
+use Rattle.rules.proofs.Bits.{bit_zero}
 use Rattle.inheritance.specs.Rows.{RowPut}
 
 -- words of 0 have no number
 pub empty_set : (c : ℕ) → c < max_classes → in_set (replicate 2 0) 0 c ≡ false
 unfolding in_set
 empty_set c h = rw (get_or-replicate {A = ℕ} 2 (0 + c / 64) 0 0 (omega arith)) (bit_zero (c % 64))
-
--- the set that has one number alone
-pub own_set : (a c : ℕ) → a < max_classes → c < max_classes → in_set (set (replicate 2 0) (a / 64) (1 * 2 ^ (a % 64) % 2 ^ 64)) 0 c ≡ eqb a c
-unfolding in_set
-own_set a c h k =
-    let shifted : 1 * 2 ^ (a % 64) % 2 ^ 64 ≡ 2 ^ (a % 64) = shl_exact 1 (a % 64) 64 (omega arith) (omega arith) ∙ one-mul (2 ^ (a % 64)) in
-    simp zero-add (rw shifted (go (test (eqb (a / 64) (c / 64)))))
-  where
-    go : (eqb (a / 64) (c / 64) ≡ true) ⊎ (eqb (a / 64) (c / 64) ≡ false) → bit_at (get_or (set (replicate 2 0) (a / 64) (2 ^ (a % 64))) (c / 64) 0) (c % 64) ≡ eqb a c
-    go (inl e) =
-        let q = eqb-true (a / 64) (c / 64) e in
-        rw (← q, get_or-set_same (replicate 2 0) (a / 64) (2 ^ (a % 64)) 0 (omega arith), bit_power (a % 64) (c % 64))
-        (same_test (a % 64) (c % 64) a c (λ r. omega arith) (λ r. omega arith))
-    go (inr e) =
-        let q = eqb-false (a / 64) (c / 64) e in
-        rw (get_or-set_other (replicate 2 0) (a / 64) (c / 64) (2 ^ (a % 64)) 0 (λ r. q (sym r)), get_or-replicate {A = ℕ} 2 (c / 64) 0 0 (omega arith), bit_zero (c % 64))
-        (sym (ne_eqb a c (λ r. q (ap (λ (x : ℕ). x / 64) r))))
 
 -- the same words at two places are the same set
 pub same_set : (words other : List ℕ) (at : ℕ) → ((w : ℕ) → w < 2 → get_or words w 0 ≡ get_or other (at + w) 0) → (c : ℕ) → c < max_classes → in_set words 0 c ≡ in_set other at c

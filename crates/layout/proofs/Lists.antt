@@ -31,7 +31,7 @@ above_short c x (y ∷ ys) e l h =
     omega (arith, above_short c y ys (and_right (ltb x y) (rises_above y ys) e) (and_right (ltb y c) (every (λ p. ltb p c) ys) l) lower)
 
 -- a list of numbers below c that rises strictly has at most c of them
-rising_short : (c : ℕ) (xs : List ℕ) → rises xs ≡ true → every (λ p. ltb p c) xs ≡ true → length xs ≤ c
+pub rising_short : (c : ℕ) (xs : List ℕ) → rises xs ≡ true → every (λ p. ltb p c) xs ≡ true → length xs ≤ c
 unfolding rises every
 rising_short c [] e l = omega arith
 rising_short c (x ∷ xs) e l =

@@ -10,12 +10,13 @@ use lib.ListN.{length, take, get_or}
 use borrow.Author.Tests.{ltb-true}
 use Rattle.rules.specs.Bounded.{every}
 use Rattle.rules.specs.Bytes.{byte, part}
-use Rattle.rules.specs.Layout.{offset, parent_section, code_section, places, tuple_rule, class_count, list_offset, list_length, parents_of, rises_above, rises, class_rule, arity_of, sig_function_of, sig_tuple_at, sig_tuple_of, signature_rule, function_of, specialiser_tuple_at, declared_tuple_at, specialiser_tuple_of, declared_tuple_of, method_rule, body_offset, body_length, code_of}
+use Rattle.rules.specs.Layout.{offset, parent_section, code_section, places, tuple_rule, class_count, list_offset, list_length, parents_of, class_rule, arity_of, sig_function_of, sig_tuple_at, sig_tuple_of, signature_rule, function_of, specialiser_tuple_at, declared_tuple_at, specialiser_tuple_of, declared_tuple_of, method_rule, body_offset, body_length, code_of}
 use Rattle.rules.specs.Model.{arg, decode, model_of, operand_rule}
 use Rattle.rules.proofs.Lists.{and_left, and_right, every_place}
 use Rattle.rules.proofs.Places.{parents_length, code_length, used_places_read, instructions_length, instructions_read, list_within, body_within, rules_sections, part_at}
 use Rattle.layout.specs.Opened.{Opened}
 use Rattle.layout.specs.declared.bundle.Bundle.{Bundle}
+use Rattle.layout.proofs.Lists.{rising_short}
 use Rattle.layout.proofs.Opened.{rules_of, tables_of, wellformed_of, counts_of}
 
 -- past its end a list reads 0, which is below every count but 0
@@ -24,22 +25,6 @@ unfolding every
 get_d_below n h [] e i = h
 get_d_below n h (x ∷ xs) e zero = ltb-true x n (and_left (ltb x n) (every (λ c. ltb c n) xs) e)
 get_d_below n h (x ∷ xs) e (suc i) = get_d_below n h xs (and_right (ltb x n) (every (λ c. ltb c n) xs) e) i
-
-above_short : (c x : ℕ) (ys : List ℕ) → rises_above x ys ≡ true → every (λ p. ltb p c) ys ≡ true → x < c → x + length ys < c
-unfolding rises_above every
-above_short c x [] e l h = omega arith
-above_short c x (y ∷ ys) e l h =
-    let step = ltb-true x y (and_left (ltb x y) (rises_above y ys) e) in
-    let lower = ltb-true y c (and_left (ltb y c) (every (λ p. ltb p c) ys) l) in
-    omega (arith, above_short c y ys (and_right (ltb x y) (rises_above y ys) e) (and_right (ltb y c) (every (λ p. ltb p c) ys) l) lower)
-
--- a list of numbers below c that rises strictly has at most c of them
-rising_short : (c : ℕ) (xs : List ℕ) → rises xs ≡ true → every (λ p. ltb p c) xs ≡ true → length xs ≤ c
-unfolding rises every
-rising_short c [] e l = omega arith
-rising_short c (x ∷ xs) e l =
-    let lower = ltb-true x c (and_left (ltb x c) (every (λ p. ltb p c) xs) l) in
-    omega (arith, above_short c x xs e (and_right (ltb x c) (every (λ p. ltb p c) xs) l) lower)
 
 module _ {b : List ℕ} {t : Bundle} (o : Opened b t) where
   -- each place of a tuple that keeps its rule is the byte there, and names a class of the bundle

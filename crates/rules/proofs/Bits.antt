@@ -1,7 +1,7 @@
 -- Laws of the bits of a number.
 -- Assumes nothing.
 use Prim.Native.Nat.{ℕ, zero, suc, ◌+◌, ◌-◌, ◌*◌, ◌/◌, ◌%◌, ◌^◌, ◌<◌}
-use native.Mathlib.Nat.{zero-add, add-zero, add_comm, pow-suc, zero-div, eq-or-lt_of_le}
+use native.Mathlib.Nat.{zero-add, add-zero, add_comm, one-mul, pow-suc, zero-div, eq-or-lt_of_le}
 use native.Mathlib.Numerals.{add-one}
 use native.Mathlib.Omega.{arith}
 use mathlib.Core.Path.{◌≡◌, refl, sym, ap, ap₂, ◌∙◌}
@@ -9,13 +9,15 @@ use mathlib.Core.Bool.{Bool, true, false, ◌&&◌, ◌||◌}
 use mathlib.Core.Logic.{◌⊎◌, inl, inr}
 use mathlib.Core.List.{List}
 use lib.Bits.{bit_and, bit_or, and_shr, and_mod, or_shr, or_mod}
-use lib.Pow.{shr-shr, high, low, field, mod-mod-pow, mod-pow-add}
+use lib.Pow.{shl_exact, shr-shr, high, low, field, mod-mod-pow, mod-pow-add}
 use lib.Dec.{eqb}
-use lib.ListN.{get_or}
-use borrow.Author.Tests.{eqb-true, eq-eqb, ne_eqb}
+use lib.ListN.{get_or, set, replicate, get_or-replicate}
+use lib.Seq.{get_or-set_same, get_or-set_other}
+use borrow.Author.Tests.{eqb-true, eqb-false, eq-eqb, ne_eqb}
 use Rattle.rules.specs.Bounded.{sum}
+use Rattle.rules.specs.Layout.{max_classes}
 use Rattle.rules.specs.Bits.{bit, bit_at, byte_of, in_set}
-use Rattle.rules.proofs.Lists.{agree}
+use Rattle.rules.proofs.Lists.{test, agree}
 
 -- a bit is 1 exactly where the test passes
 pub bit_test : (t : Bool) → eqb (bit t) 1 ≡ t
@@ -170,3 +172,20 @@ pub either_set : (set other new : List ℕ) (at n : ℕ) → ((w : ℕ) → w < 
     → (i : ℕ) → i < 64 * n → in_set new 0 i ≡ (in_set set 0 i || in_set other at i)
 unfolding in_set
 either_set set other new at n f i h = simp zero-add (rw (f (i / 64) (omega arith)) (bit_or_lem (get_or set (i / 64) 0) (get_or other (at + i / 64) 0) (i % 64)))
+
+-- the set that has one number alone
+pub own_set : (a c : ℕ) → a < max_classes → c < max_classes → in_set (set (replicate 2 0) (a / 64) (1 * 2 ^ (a % 64) % 2 ^ 64)) 0 c ≡ eqb a c
+unfolding in_set
+own_set a c h k =
+    let shifted : 1 * 2 ^ (a % 64) % 2 ^ 64 ≡ 2 ^ (a % 64) = shl_exact 1 (a % 64) 64 (omega arith) (omega arith) ∙ one-mul (2 ^ (a % 64)) in
+    simp zero-add (rw shifted (go (test (eqb (a / 64) (c / 64)))))
+  where
+    go : (eqb (a / 64) (c / 64) ≡ true) ⊎ (eqb (a / 64) (c / 64) ≡ false) → bit_at (get_or (set (replicate 2 0) (a / 64) (2 ^ (a % 64))) (c / 64) 0) (c % 64) ≡ eqb a c
+    go (inl e) =
+        let q = eqb-true (a / 64) (c / 64) e in
+        rw (← q, get_or-set_same (replicate 2 0) (a / 64) (2 ^ (a % 64)) 0 (omega arith), bit_power (a % 64) (c % 64))
+        (same_test (a % 64) (c % 64) a c (λ r. omega arith) (λ r. omega arith))
+    go (inr e) =
+        let q = eqb-false (a / 64) (c / 64) e in
+        rw (get_or-set_other (replicate 2 0) (a / 64) (c / 64) (2 ^ (a % 64)) 0 (λ r. q (sym r)), get_or-replicate {A = ℕ} 2 (c / 64) 0 0 (omega arith), bit_zero (c % 64))
+        (sym (ne_eqb a c (λ r. q (ap (λ (x : ℕ). x / 64) r))))

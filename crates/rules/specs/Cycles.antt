@@ -1,5 +1,6 @@
 -- Bundles whose classes may stand in any order: a class lists any classes that are there as its parents, and a rule of its own, 28, asks that no class inherits from
 -- itself. Opening (`Layout`) asks for parents with lower numbers in place of both; where they are lower, both open alike (`proofs/LowerParents`).
+-- No call goes by this file.
 -- Assumes nothing.
 use Rattle.std.specs.Prelude.{ℕ, ◌+◌, Bool, not, ◌&&◌, List, [], ◌∷◌, leb, ltb, eqb}
 use Rattle.std.specs.Bool.{beq}

@@ -1,7 +1,7 @@
 -- The rows of the subclass matrix as words of bits: how they are made from one another, and their bytes.
 -- Assumes nothing.
 use Prim.Native.Nat.{ℕ, zero, suc, ◌+◌, ◌*◌, ◌/◌, ◌%◌, ◌^◌, ◌≤◌, ◌<◌}
-use native.Mathlib.Nat.{zero-add, add-zero, one-mul}
+use native.Mathlib.Nat.{zero-add, add-zero}
 use native.Mathlib.Omega.{arith}
 use mathlib.Core.Path.{◌≡◌, sym, ap, ap₂, ◌∙◌}
 use mathlib.Core.Bool.{Bool, true, false, ◌&&◌, ◌||◌, or-false, or_assoc}
@@ -9,35 +9,17 @@ use mathlib.Core.Logic.{◌⊎◌, inl, inr}
 use mathlib.Core.List.{List}
 use lib.Dec.{eqb, ltb}
 use lib.ListN.{length, get_or, take, set, replicate, length-set, get_or-replicate}
-use lib.Pow.{shl_exact}
 use lib.Seq.{take_all, get_or-set_same, get_or-set_other}
-use borrow.Author.Tests.{lt-ltb, le-ltb, ltb-true, ltb-false, eqb-true, eqb-false, ne_eqb}
+use borrow.Author.Tests.{lt-ltb, le-ltb, ltb-true, ltb-false, eqb-true, eqb-false}
 use Rattle.rules.specs.Bounded.{any}
 use Rattle.rules.specs.Layout.{max_classes}
 use Rattle.rules.specs.Model.{Model, Wellformed}
 use Rattle.rules.specs.Bits.{bit_at, in_set}
 use Rattle.rules.specs.Scratch.{matrix_row, class_under, matrix_byte}
 use Rattle.rules.proofs.Lists.{test, agree, any_take}
-use Rattle.rules.proofs.Bits.{same_test, bit_zero, bit_power, bit_shift, byte_of_bits, byte_agree}
+use Rattle.rules.proofs.Bits.{bit_zero, bit_shift, byte_of_bits, byte_agree}
 use Rattle.rules.proofs.Scratch.{absent_lower, class_parents}
 use Rattle.subclasses.specs.Matrix.{RowOf, RowsTo, word_byte}
-
--- the set that has one number alone
-pub own_set : (a c : ℕ) → a < max_classes → c < max_classes → in_set (set (replicate 2 0) (a / 64) (1 * 2 ^ (a % 64) % 2 ^ 64)) 0 c ≡ eqb a c
-unfolding in_set
-own_set a c h k =
-    let shifted : 1 * 2 ^ (a % 64) % 2 ^ 64 ≡ 2 ^ (a % 64) = shl_exact 1 (a % 64) 64 (omega arith) (omega arith) ∙ one-mul (2 ^ (a % 64)) in
-    simp zero-add (rw shifted (go (test (eqb (a / 64) (c / 64)))))
-  where
-    go : (eqb (a / 64) (c / 64) ≡ true) ⊎ (eqb (a / 64) (c / 64) ≡ false) → bit_at (get_or (set (replicate 2 0) (a / 64) (2 ^ (a % 64))) (c / 64) 0) (c % 64) ≡ eqb a c
-    go (inl e) =
-        let q = eqb-true (a / 64) (c / 64) e in
-        rw (← q, get_or-set_same (replicate 2 0) (a / 64) (2 ^ (a % 64)) 0 (omega arith), bit_power (a % 64) (c % 64))
-        (same_test (a % 64) (c % 64) a c (λ r. omega arith) (λ r. omega arith))
-    go (inr e) =
-        let q = eqb-false (a / 64) (c / 64) e in
-        rw (get_or-set_other (replicate 2 0) (a / 64) (c / 64) (2 ^ (a % 64)) 0 (λ r. q (sym r)), get_or-replicate {A = ℕ} 2 (c / 64) 0 0 (omega arith), bit_zero (c % 64))
-        (sym (ne_eqb a c (λ r. q (ap (λ (x : ℕ). x / 64) r))))
 
 -- The class itself, and what its first i parents are under: from the class alone, by one parent more, to the whole row.
 pub record Joined (M : Model) (a i : ℕ) (row : List ℕ) : Type 0 where

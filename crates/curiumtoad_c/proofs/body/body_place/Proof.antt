@@ -1,7 +1,7 @@
 -- `curiumtoad_c::body::body_place` meets its contract: a layout refusal, an absent method, or the span of the body.
 -- Assumes nothing.
 use borrow.Author.Rules.{rules}
-use mathlib.Core.Path.{sym, ◌∙◌}
+use mathlib.Core.Path.{◌∙◌}
 use Rattle.bundle_rules.proofs.Opened.{opened_of}
 use Rattle.curiumtoad.proofs.Viewed.{view_refused, view_absent, view_given}
 use Rattle.curiumtoad_c.proofs.Placing.{span_reply}

@@ -1,7 +1,7 @@
 -- `inheritance::rows::own_row` meets its contract: one word has one bit, the other none.
 -- Assumes nothing.
 use borrow.Author.Rules.{rules}
-use Rattle.inheritance.proofs.Words.{own_set}
+use Rattle.rules.proofs.Bits.{own_set}
 use Rattle.inheritance.proofs.rows.own_row.Statement.{statement}
 use Rattle.inheritance.proofs.rows.own_row.Tie as tie
 

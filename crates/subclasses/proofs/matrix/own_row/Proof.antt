@@ -1,7 +1,7 @@
 -- `subclasses::matrix::own_row` meets its contract: one word has one bit, the other none.
 -- Assumes nothing.
 use borrow.Author.Rules.{rules}
-use Rattle.subclasses.proofs.Rows.{own_set}
+use Rattle.rules.proofs.Bits.{own_set}
 use Rattle.subclasses.proofs.matrix.own_row.Statement.{statement}
 use Rattle.subclasses.proofs.matrix.own_row.Tie as tie
 
