@@ -29,7 +29,7 @@ ROOT = pathlib.Path(__file__).resolve().parent.parent
 DOCUMENTS = [ROOT / "README.md", *sorted(p for p in (ROOT / "docs").glob("*.md") if p.name != "PORT.md"), ROOT / "bundles" / "README.md", ROOT / "rust" / "README.md"]
 # In these a plain word in backquotes is the name of something, unless it is a word of the language.
 NAMING = {"DECISIONS.md", "MUST-FAIL.md", "RULES.md"}
-KEYWORDS = {"else", "match", "usize"}
+KEYWORDS = {"else", "match", "usize", "Option", "Some", "None", "Result", "Ok", "Err", "Iterator", "From", "Copy"}
 ENDINGS = {".antt", ".bundle", ".c", ".chart", ".h", ".listing", ".md", ".py", ".rs", ".rt", ".txt"}
 PATH = r"[\w.-]+(/[\w.-]+)+/?|[\w.-]+/"
 
@@ -47,8 +47,10 @@ def items(path):
     """the items of a source file, each by its path from there, and the paths of what is passed on from elsewhere"""
     inside, found, passed = None, [], []
     for line in path.read_text().splitlines():
-        if match := re.match(r'(?:pub(?:\(crate\))? )?(?:extern "C" )?(fn|struct|enum|const|impl) (\w+)', line):
-            inside = match[2] if match[1] in ("enum", "impl") else None
+        if match := re.match(r"impl(?:<[^>]*>)? (?:[\w:<>]+ for )?(\w+)", line):
+            inside = match[1]
+        elif match := re.match(r'(?:pub(?:\(crate\))? )?(?:extern "C" )?(fn|struct|enum|const) (\w+)', line):
+            inside = match[2] if match[1] == "enum" else None
             found.append((match[2],))
         elif inside and (match := re.match(r"    (?:pub(?:\(crate\))? )?(?:fn |const )?(\w+)", line)):
             found.append((inside, match[1]))

@@ -1,13 +1,12 @@
 -- What a verdict says: the number and values of each finding.
 -- Assumes nothing.
-use Rattle.std.specs.Prelude.{ℕ, List, [], ◌∷◌, ◌++◌}
+use Rattle.std.specs.Prelude.{ℕ, List, [], ◌∷◌, ◌++◌, Result, Ok, Err}
 use Rattle.rules.specs.Numbers as numbers
 use Rattle.rules.specs.Layout.{Answer, gives, refuses}
 use Rattle.answers.specs.declared.finding.CoverageFinding as coverage-type
 use Rattle.answers.specs.declared.finding.Finding as finding-type
 use Rattle.answers.specs.declared.finding.Finding.TheVariants.{Layout, Scratch, Coverage, Body}
-use Rattle.answers.specs.declared.finding.Verdict as verdict-type
-use Rattle.answers.specs.declared.finding.Verdict.TheVariants.{Accepted, Refused}
+use Rattle.answers.specs.Numbers.{code_of}
 use Rattle.answers.specs.Send.{send_values}
 use Rattle.answers.specs.Opening.{layout_number, layout_values}
 use Rattle.answers.specs.Failures.{failure_number, failure_methods}
@@ -23,7 +22,7 @@ abbrev pub finding_number : finding-type.Finding → ℕ
 finding_number (Layout f) = layout_number f
 finding_number Scratch = numbers.short_scratch
 finding_number (Coverage c) = failure_number c.failure
-finding_number (Body x) = x.number
+finding_number (Body x) = code_of x.number
 
 abbrev pub finding_values : finding-type.Finding → List ℕ
 finding_values (Layout f) = layout_values f
@@ -31,6 +30,7 @@ finding_values Scratch = []
 finding_values (Coverage c) = coverage_values c
 finding_values (Body x) = x.method ∷ x.instruction ∷ []
 
-abbrev pub verdict_said : verdict-type.Verdict → Answer (Unit {0})
-verdict_said Accepted = gives tt
-verdict_said (Refused f) = refuses (finding_number f) (finding_values f)
+-- the verdict of a check: accepted, or refused by what was found
+abbrev pub verdict_said : Result (Unit {0}) finding-type.Finding → Answer (Unit {0})
+verdict_said (Ok x) = gives tt
+verdict_said (Err f) = refuses (finding_number f) (finding_values f)

@@ -1,3 +1,4 @@
+pub mod Numbers
 pub mod Send
 pub mod Opening
 pub mod Failures

@@ -1,15 +1,14 @@
 -- What opening answers: the number and values of each case, and the tables of a bundle that opens.
 -- Assumes nothing.
-use Rattle.std.specs.Prelude.{ℕ, ◌≡◌, List, [], ◌∷◌}
+use Rattle.std.specs.Prelude.{ℕ, ◌≡◌, List, [], ◌∷◌, Result, Ok, Err}
 use Rattle.rules.specs.Numbers as numbers
 use Rattle.rules.specs.Layout.{Answer, gives, refuses, opening}
+use Rattle.layout.specs.declared.bundle.Bundle.{Bundle}
 use Rattle.layout.specs.Tables.{Tables}
 use Rattle.answers.specs.declared.opening.Rule as rule-type
 use Rattle.answers.specs.declared.opening.Rule.TheVariants.{Class, Function, Signature, Method, Twin, Code}
 use Rattle.answers.specs.declared.opening.LayoutFinding as finding-type
 use Rattle.answers.specs.declared.opening.LayoutFinding.TheVariants.{Length, Directory, Counts, Record}
-use Rattle.answers.specs.declared.opening.Opening as opening-type
-use Rattle.answers.specs.declared.opening.Opening.TheVariants.{Opened, Refused}
 
 abbrev pub rule_number : rule-type.Rule → ℕ
 rule_number Class = numbers.bad_class
@@ -33,20 +32,15 @@ layout_values Counts = []
 layout_values (Record rule k) = k ∷ []
 
 -- An opened bundle gives its four counts.
-abbrev pub said : opening-type.Opening → Answer (List ℕ)
-said (Opened t) = gives (t.classes ∷ t.functions ∷ t.signatures ∷ t.methods ∷ [])
-said (Refused f) = refuses (layout_number f) (layout_values f)
+abbrev pub said : Result Bundle finding-type.LayoutFinding → Answer (List ℕ)
+said (Ok t) = gives (t.classes ∷ t.functions ∷ t.signatures ∷ t.methods ∷ [])
+said (Err f) = refuses (layout_number f) (layout_values f)
 
 -- the tables that come with an opened bundle are its own
-abbrev pub TablesOf : List ℕ → opening-type.Opening → Type 0
-TablesOf b (Opened t) = Tables b t
-TablesOf b (Refused f) = Unit
+abbrev pub TablesOf : List ℕ → Result Bundle finding-type.LayoutFinding → Type 0
+TablesOf b (Ok t) = Tables b t
+TablesOf b (Err f) = Unit
 
-pub record Opens (b : List ℕ) (r : opening-type.Opening) : Type 0 where
+pub record Opens (b : List ℕ) (r : Result Bundle finding-type.LayoutFinding) : Type 0 where
   pub answer : said r ≡ opening b
   pub tables : TablesOf b r
-
--- a bundle that does not open
-abbrev pub Refuses : opening-type.Opening → Type 0
-Refuses (Opened t) = ⊥
-Refuses (Refused f) = Unit {0}

@@ -1,10 +1,9 @@
 // What a send fails by: no method is found, number 10 or 11, or one that does not suit, number 12 or 13.
 ghost use Rattle.std.specs.Prelude.{◌≡◌, get_or};
+ghost use Rattle.answers.specs.Numbers.{code_of};
 ghost use Rattle.answers.specs.Failures.{not_found_number, resend_number, not_found_methods, failure_number, failure_methods};
 
-use crate::number::{
-    AMBIGUOUS, AMBIGUOUS_RESEND, NARROW_DECLARED, NO_METHOD, NO_OVERRIDDEN, WIDE_RESULT,
-};
+use crate::number::Number;
 
 // What a lookup fails by: no method applies, or none of those that do leads, with the two rivals to name.
 #[derive(Clone, Copy)]
@@ -14,22 +13,22 @@ pub enum NotFound {
 }
 
 impl NotFound {
-    pub fn number(self) -> u8
-        ensures { result ≡ not_found_number self }
+    pub fn number(self) -> Number
+        ensures { code_of result ≡ not_found_number self }
     {
         match self {
-            NotFound::Missing => NO_METHOD,
-            NotFound::Ambiguous(_, _) => AMBIGUOUS,
+            NotFound::Missing => Number::NoMethod,
+            NotFound::Ambiguous(_, _) => Number::Ambiguous,
         }
     }
 
     // The same of a resend, which looks among the methods that its own overrides.
-    pub fn resend_number(self) -> u8
-        ensures { result ≡ resend_number self }
+    pub fn resend_number(self) -> Number
+        ensures { code_of result ≡ resend_number self }
     {
         match self {
-            NotFound::Missing => NO_OVERRIDDEN,
-            NotFound::Ambiguous(_, _) => AMBIGUOUS_RESEND,
+            NotFound::Missing => Number::NoOverridden,
+            NotFound::Ambiguous(_, _) => Number::AmbiguousResend,
         }
     }
 
@@ -63,13 +62,13 @@ pub enum Failure {
 }
 
 impl Failure {
-    pub fn number(self) -> u8
-        ensures { result ≡ failure_number self }
+    pub fn number(self) -> Number
+        ensures { code_of result ≡ failure_number self }
     {
         match self {
             Failure::Lookup(failed) => failed.number(),
-            Failure::Declared(_) => NARROW_DECLARED,
-            Failure::Result(_) => WIDE_RESULT,
+            Failure::Declared(_) => Number::NarrowDeclared,
+            Failure::Result(_) => Number::WideResult,
         }
     }
 

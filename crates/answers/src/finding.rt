@@ -1,5 +1,6 @@
-// The verdict of a check, and what it finds broken.
+// What a check finds broken.
 use crate::failure::Failure;
+use crate::number::Number;
 use crate::opening::LayoutFinding;
 use crate::send::Send;
 
@@ -14,7 +15,7 @@ pub struct CoverageFinding {
 // Numbers 14 to 17 and 25 to 27: the method and its first broken instruction.
 #[derive(Clone, Copy)]
 pub struct BodyFinding {
-    pub number: u8,
+    pub number: Number,
     pub method: usize,
     pub instruction: usize,
 }
@@ -26,11 +27,4 @@ pub enum Finding {
     Scratch,
     Coverage(CoverageFinding),
     Body(BodyFinding),
-}
-
-// Accepted, or refused with what was found.
-#[derive(Clone, Copy)]
-pub enum Verdict {
-    Accepted,
-    Refused(Finding),
 }

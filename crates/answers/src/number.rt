@@ -1,54 +1,42 @@
 // The numbers of the rules (M 11), each by its name. The definitions have the same names in `rules/specs/Numbers`.
-pub const BAD_LENGTH: u8 = 1;
+ghost use Rattle.std.specs.Prelude.{◌≡◌};
+ghost use Rattle.answers.specs.Numbers.{code_of};
 
-pub const BAD_DIRECTORY: u8 = 2;
+#[derive(Clone, Copy, PartialEq, Eq, Debug)]
+pub enum Number {
+    BadLength = 1,
+    BadDirectory = 2,
+    BadCounts = 3,
+    BadClass = 4,
+    BadFunction = 5,
+    BadSignature = 6,
+    BadMethod = 7,
+    TwinMethod = 8,
+    BadCode = 9,
+    NoMethod = 10,
+    Ambiguous = 11,
+    NarrowDeclared = 12,
+    WideResult = 13,
+    BadStack = 14,
+    AbstractNew = 15,
+    NoLicence = 16,
+    LooseResult = 17,
+    Absent = 18,
+    ShortScratch = 19,
+    ShortBuffer = 20,
+    NotBinary = 21,
+    NoLine = 22,
+    ShortLine = 23,
+    NoConcrete = 24,
+    NoOverridden = 25,
+    AmbiguousResend = 26,
+    NarrowTarget = 27,
+}
 
-pub const BAD_COUNTS: u8 = 3;
-
-pub const BAD_CLASS: u8 = 4;
-
-pub const BAD_FUNCTION: u8 = 5;
-
-pub const BAD_SIGNATURE: u8 = 6;
-
-pub const BAD_METHOD: u8 = 7;
-
-pub const TWIN_METHOD: u8 = 8;
-
-pub const BAD_CODE: u8 = 9;
-
-pub const NO_METHOD: u8 = 10;
-
-pub const AMBIGUOUS: u8 = 11;
-
-pub const NARROW_DECLARED: u8 = 12;
-
-pub const WIDE_RESULT: u8 = 13;
-
-pub const BAD_STACK: u8 = 14;
-
-pub const ABSTRACT_NEW: u8 = 15;
-
-pub const NO_LICENCE: u8 = 16;
-
-pub const LOOSE_RESULT: u8 = 17;
-
-pub const ABSENT: u8 = 18;
-
-pub const SHORT_SCRATCH: u8 = 19;
-
-pub const SHORT_BUFFER: u8 = 20;
-
-pub const NOT_BINARY: u8 = 21;
-
-pub const NO_LINE: u8 = 22;
-
-pub const SHORT_LINE: u8 = 23;
-
-pub const NO_CONCRETE: u8 = 24;
-
-pub const NO_OVERRIDDEN: u8 = 25;
-
-pub const AMBIGUOUS_RESEND: u8 = 26;
-
-pub const NARROW_TARGET: u8 = 27;
+impl Number {
+    pub fn code(self) -> u8
+        ensures { result ≡ code_of self }
+    {
+        self as u8
+    }
+}

@@ -1,13 +1,9 @@
-// What opening finds: numbers 1 to 9, and the opened bundle.
+// What opening finds: numbers 1 to 9.
 ghost use Rattle.std.specs.Prelude.{◌≡◌, get_or};
-ghost use Rattle.answers.specs.declared.opening.Opening.TheVariants.{Refused};
-ghost use Rattle.answers.specs.Opening.{rule_number, layout_number, layout_values, Refuses};
+ghost use Rattle.answers.specs.Numbers.{code_of};
+ghost use Rattle.answers.specs.Opening.{rule_number, layout_number, layout_values};
 
-use crate::number::{
-    BAD_CLASS, BAD_CODE, BAD_COUNTS, BAD_DIRECTORY, BAD_FUNCTION, BAD_LENGTH, BAD_METHOD,
-    BAD_SIGNATURE, TWIN_METHOD,
-};
-use layout::bundle::Bundle;
+use crate::number::Number;
 
 // The rules on records, in the order of their numbers 4 to 9.
 #[derive(Clone, Copy)]
@@ -21,16 +17,16 @@ pub enum Rule {
 }
 
 impl Rule {
-    pub fn number(self) -> u8
-        ensures { result ≡ rule_number self }
+    pub fn number(self) -> Number
+        ensures { code_of result ≡ rule_number self }
     {
         match self {
-            Rule::Class => BAD_CLASS,
-            Rule::Function => BAD_FUNCTION,
-            Rule::Signature => BAD_SIGNATURE,
-            Rule::Method => BAD_METHOD,
-            Rule::Twin => TWIN_METHOD,
-            Rule::Code => BAD_CODE,
+            Rule::Class => Number::BadClass,
+            Rule::Function => Number::BadFunction,
+            Rule::Signature => Number::BadSignature,
+            Rule::Method => Number::BadMethod,
+            Rule::Twin => Number::TwinMethod,
+            Rule::Code => Number::BadCode,
         }
     }
 }
@@ -45,13 +41,13 @@ pub enum LayoutFinding {
 }
 
 impl LayoutFinding {
-    pub fn number(self) -> u8
-        ensures { result ≡ layout_number self }
+    pub fn number(self) -> Number
+        ensures { code_of result ≡ layout_number self }
     {
         match self {
-            LayoutFinding::Length => BAD_LENGTH,
-            LayoutFinding::Directory => BAD_DIRECTORY,
-            LayoutFinding::Counts => BAD_COUNTS,
+            LayoutFinding::Length => Number::BadLength,
+            LayoutFinding::Directory => Number::BadDirectory,
+            LayoutFinding::Counts => Number::BadCounts,
             LayoutFinding::Record(rule, _) => rule.number(),
         }
     }
@@ -65,25 +61,6 @@ impl LayoutFinding {
             LayoutFinding::Directory => 0,
             LayoutFinding::Counts => 0,
             LayoutFinding::Record(_, k) => k,
-        }
-    }
-}
-
-#[derive(Clone, Copy)]
-pub enum Opening {
-    Opened(Bundle),
-    Refused(LayoutFinding),
-}
-
-impl Opening {
-    // What a bundle that does not open breaks.
-    pub fn finding(self) -> LayoutFinding
-        requires { Refuses self }
-        ensures { self ≡ Refused result }
-    {
-        match self {
-            Opening::Refused(found) => found,
-            Opening::Opened(_) => LayoutFinding::Length,
         }
     }
 }

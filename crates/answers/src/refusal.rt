@@ -1,8 +1,10 @@
 // What a call refuses before the rules of its own.
 ghost use Rattle.std.specs.Prelude.{◌≡◌, get_or};
+ghost use Rattle.answers.specs.Numbers.{code_of};
+ghost use Rattle.answers.specs.declared.refusal.Refusal.TheVariants.{Layout};
 ghost use Rattle.answers.specs.Refusals.{refusal_number, refusal_values};
 
-use crate::number::{ABSENT, SHORT_BUFFER, SHORT_SCRATCH};
+use crate::number::Number;
 use crate::opening::LayoutFinding;
 
 // Numbers 1 to 9, 19, 20 and 18, in the order in which they are tried.
@@ -15,14 +17,14 @@ pub enum Refusal {
 }
 
 impl Refusal {
-    pub fn number(self) -> u8
-        ensures { result ≡ refusal_number self }
+    pub fn number(self) -> Number
+        ensures { code_of result ≡ refusal_number self }
     {
         match self {
             Refusal::Layout(found) => found.number(),
-            Refusal::Scratch => SHORT_SCRATCH,
-            Refusal::Row => SHORT_BUFFER,
-            Refusal::Absent => ABSENT,
+            Refusal::Scratch => Number::ShortScratch,
+            Refusal::Row => Number::ShortBuffer,
+            Refusal::Absent => Number::Absent,
         }
     }
 
@@ -36,5 +38,13 @@ impl Refusal {
             Refusal::Row => 0,
             Refusal::Absent => 0,
         }
+    }
+}
+
+impl From<LayoutFinding> for Refusal {
+    ghost from_gives = { λ found r. r ≡ Layout found };
+
+    fn from(found: LayoutFinding) -> Refusal {
+        Refusal::Layout(found)
     }
 }

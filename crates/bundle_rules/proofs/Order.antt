@@ -3,12 +3,14 @@
 use Prim.Native.Nat.{ℕ, zero, suc, ◌<◌}
 use native.Mathlib.Omega.{arith}
 use mathlib.Core.Path.{◌≡◌, refl, sym, ap, ◌∙◌}
+use mathlib.Core.Bool.{true, ◌&&◌}
 use mathlib.Core.List.{List, [], ◌∷◌}
-use mathlib.Core.Option.{Option, none, some}
+use mathlib.Core.Option as math
+use mathlib.Core.Option.{none, some}
+use Rattle.std.proofs.Common.{Option}
 use lib.ListN.{length, get_or}
-use Rattle.rules.specs.Layout.{gives, refuses, require_each, class_count, function_count, signature_count, method_count}
+use Rattle.rules.specs.Layout.{gives, refuses, require, require_each, size_rule, chain_rule, whole_rule, limit_rule, opening, class_count, function_count, signature_count, method_count}
 use Rattle.answers.specs.declared.opening.Rule as rule-type
-use Rattle.bundle_rules.specs.declared.lowest.Lowest as lowest-type
 use Rattle.answers.specs.declared.opening.Rule.TheVariants.{Code}
 use Rattle.answers.specs.Opening.{rule_number}
 use Rattle.bundle_rules.specs.Rules.{lowest_of, lowest_broken, Presumed, order, opening_by}
@@ -32,7 +34,7 @@ none_broken [] b h = refl
 none_broken (rule ∷ rest) b h = rw (h 0 (omega arith)) (none_broken rest b (λ j m. h (suc j) (omega arith)))
 
 -- what a search answered, once its outcome is known
-pub answered : {r o : lowest-type.Lowest} {x : Option ℕ} → lowest_of r ≡ x → r ≡ o → x ≡ lowest_of o
+pub answered : {r o : Option ℕ} {x : math.Option ℕ} → lowest_of r ≡ x → r ≡ o → x ≡ lowest_of o
 answered q e = sym q ∙ ap lowest_of e
 
 -- what a rule presumes is what the rules before it say
@@ -44,3 +46,8 @@ presumed (suc (suc (suc zero))) b l h = tt
 presumed (suc (suc (suc (suc zero)))) b l h = tt
 presumed (suc (suc (suc (suc (suc zero))))) b l h = h 3 (omega arith)
 presumed (suc (suc (suc (suc (suc (suc i)))))) b l h = absurd (omega arith)
+
+-- with numbers 1 to 3 kept, the rules on records decide
+pub tried_before : (b : List ℕ) → size_rule b ≡ true → (chain_rule b && whole_rule b) ≡ true → limit_rule b ≡ true → opening_by order b ≡ opening b
+unfolding opening require opening_by
+tried_before b size directory limits = rw (size, directory, limits) refl

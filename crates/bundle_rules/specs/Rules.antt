@@ -1,17 +1,18 @@
 -- The rules on records by their names in the code, and what a search for the lowest broken one finds.
 -- Assumes nothing.
 use Rattle.std.specs.Prelude.{ℕ, ◌≡◌, Bool, List, [], ◌∷◌}
-use Rattle.std.proofs.Math.Option.{Option, none, some}
+use Rattle.std.proofs.Common.{Option, None, Some}
+use Rattle.std.proofs.Math.Option as math
+use Rattle.std.proofs.Math.Option.{none, some}
 use Rattle.rules.specs.Layout.{Answer, gives, require_each, list_length, body_length, class_rule, function_rule, signature_rule, method_rule, twin_rule, code_rule, class_count, function_count, signature_count, method_count, lowest}
 use Rattle.answers.specs.Opening.{rule_number}
-use Rattle.bundle_rules.specs.declared.lowest.Lowest as lowest-type
-use Rattle.bundle_rules.specs.declared.lowest.Lowest.TheVariants as outcome
 use Rattle.answers.specs.declared.opening.Rule as rule-type
 use Rattle.answers.specs.declared.opening.Rule.TheVariants.{Class, Function, Signature, Method, Twin, Code}
 
-abbrev pub lowest_of : lowest-type.Lowest → Option ℕ
-lowest_of (outcome.At k) = some k
-lowest_of outcome.None = none
+-- what a search answered, in the words of the rules
+abbrev pub lowest_of : Option ℕ → math.Option ℕ
+lowest_of (Some k) = some k
+lowest_of None = none
 
 abbrev pub rule_of : rule-type.Rule → List ℕ → ℕ → Bool
 rule_of Class = class_rule
@@ -31,7 +32,7 @@ count_of Twin = method_count
 count_of Code = method_count
 
 -- the lowest record that breaks the rule
-abbrev pub lowest_broken : rule-type.Rule → List ℕ → Option ℕ
+abbrev pub lowest_broken : rule-type.Rule → List ℕ → math.Option ℕ
 lowest_broken rule b = lowest (rule_of rule b) (count_of rule b)
 
 -- how many bytes the list or body of a record has, where the rule is about one

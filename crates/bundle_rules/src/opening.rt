@@ -1,16 +1,17 @@
 // Opening: the rules in the order of their numbers.
-ghost use Rattle.std.specs.Prelude.{◌≡◌, ◌<◌, length, get_or};
-ghost use Rattle.layout.specs.Tables.{Placed};
+ghost use Rattle.std.specs.Prelude.{◌≡◌, ◌<◌, length, get_or, IfOk};
 ghost use Rattle.answers.specs.declared.opening.Rule.TheVariants.{Code};
 ghost use Rattle.answers.specs.Opening.{said, TablesOf, Opens};
+ghost use Rattle.bundle_rules.specs.Tables.{tables_of};
 ghost use Rattle.bundle_rules.specs.Rules.{order, opening_by};
 
-use crate::lowest::{Lowest, lowest_broken};
-use answers::opening::{LayoutFinding, Opening, Rule};
+use crate::lowest::lowest_broken;
+use answers::opening::{LayoutFinding, Rule};
 use directory_rules::directory::directory_holds;
 use directory_rules::limits::{size_holds, within_limits};
 use layout::bundle::Bundle;
-use twin_rule::chain::chain_methods;
+use layout::open::{OpenBundle, Records};
+use twin_rule::chain::ChainedRecords;
 
 // How many rules on records there are.
 const RULES: usize = 6;
@@ -31,35 +32,34 @@ fn rule_at(i: usize) -> Rule
 }
 
 // Numbers 4 to 9: each rule is decided for all its records before the next.
-fn records_opening(bytes: &[u8], b: Bundle) -> Opening
-    requires { Placed bytes.now b }
-    ensures { (said result ≡ opening_by order bytes.now) × TablesOf bytes.now result }
+fn records_opening(records: &Records<'_>) -> Result<Bundle, LayoutFinding>
+    ensures { (said result ≡ opening_by order records.now.bytes.now) × TablesOf records.now.bytes.now result }
 {
-    let chains = chain_methods(bytes, b);
-    let mut i = 0;
-    while i < RULES {
+    let chained = ChainedRecords::new(records);
+    for i in 0..RULES {
         let rule = rule_at(i);
-        if let Lowest::At(k) = lowest_broken(bytes, b, &chains, rule) {
-            return Opening::Refused(LayoutFinding::Record(rule, k));
+        if let Some(k) = lowest_broken(&chained, rule) {
+            return Err(LayoutFinding::Record(rule, k));
         }
-        i += 1;
     }
-    Opening::Opened(b)
+    Ok(records.tables)
 }
 
 // The opened bundle, or the first of the rules 1 to 9 that the bytes break.
-pub fn open(bytes: &[u8]) -> Opening
-    ensures { Opens bytes.now result }
+pub fn open(bytes: &[u8]) -> Result<OpenBundle<'_>, LayoutFinding>
+    ensures opens { Opens bytes.now (tables_of result) }
+    ensures same_bytes { IfOk result (λ b. b.bytes ≡ bytes.entry) }
 {
     if !size_holds(bytes) {
-        return Opening::Refused(LayoutFinding::Length);
+        return Err(LayoutFinding::Length);
     }
     if !directory_holds(bytes) {
-        return Opening::Refused(LayoutFinding::Directory);
+        return Err(LayoutFinding::Directory);
     }
-    let b = Bundle::of_directory(bytes);
-    if !within_limits(bytes, b) {
-        return Opening::Refused(LayoutFinding::Counts);
+    let tables = Bundle::of_directory(bytes);
+    if !within_limits(bytes, tables) {
+        return Err(LayoutFinding::Counts);
     }
-    records_opening(bytes, b)
+    let tables = records_opening(&Records { bytes, tables })?;
+    Ok(OpenBundle { bytes, tables })
 }

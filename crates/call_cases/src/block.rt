@@ -21,13 +21,6 @@ pub(crate) fn read_first<R: Read>(
     Ok(read_full(reader, &mut space[..len])? == len)
 }
 
-// The numbers of a block, and whether the input had it whole. Those that the block leaves out are 0.
-#[derive(Clone, Copy)]
-pub(crate) struct Block {
-    pub(crate) is_whole: bool,
-    pub(crate) numbers: [usize; NUMBERS],
-}
-
 // The numbers in the first so many bytes: each byte is seven bits of one, the highest first, and all but a number's last have 128 added.
 fn numbers_of(bytes: &[u8; 256], len: usize) -> [usize; NUMBERS]
     requires { len ≤ 256 }
@@ -47,15 +40,16 @@ fn numbers_of(bytes: &[u8; 256], len: usize) -> [usize; NUMBERS]
     numbers
 }
 
-// A block is a byte that says how many follow, and these.
-pub(crate) fn read_block<R: Read>(reader: &mut R) -> io::Result<Block> {
+// A block is a byte that says how many follow, and these. The numbers that it leaves out are 0; there are none where the input does not have it whole.
+pub(crate) fn read_block<R: Read>(reader: &mut R) -> io::Result<Option<[usize; NUMBERS]>> {
     let mut head = [0u8; 1];
-    let has_head = read_first(reader, &mut head, 1)?;
+    if !read_first(reader, &mut head, 1)? {
+        return Ok(None);
+    }
     let len = byte(&head, 0);
     let mut bytes = [0u8; 256];
-    let has_bytes = read_first(reader, &mut bytes, len)?;
-    Ok(Block {
-        is_whole: has_head && has_bytes,
-        numbers: numbers_of(&bytes, len),
-    })
+    if !read_first(reader, &mut bytes, len)? {
+        return Ok(None);
+    }
+    Ok(Some(numbers_of(&bytes, len)))
 }

@@ -14,7 +14,7 @@ use curiumtoad::send_type::send_type;
 use curiumtoad::witness::witness;
 use curiumtoad::{Send, Tuple};
 use reply::Reply;
-use text::listing::listing;
+use text::listing::{listing, listing_reply};
 
 // The code of an entry point, how much is lent, and what is asked: an entry point takes as many of the numbers as it asks for.
 #[derive(Clone, Copy)]
@@ -47,11 +47,11 @@ impl Call {
     fn plain_reply(self, bundle: &[u8], row: &mut [u8]) -> Reply {
         let entry = self.entry;
         match entry {
-            0 => Reply::of_opening(open(bundle)),
+            0 => Reply::from(open(bundle)),
             1 => view_reply(bundle, row, self.n0),
             2 => instruction_reply(bundle, self.n0, self.n1),
             3 => reading_reply(bundle, self.n0),
-            11 => listing(bundle, row).reply(),
+            11 => listing_reply(listing(bundle, row)),
             _ => alone(UNKNOWN),
         }
     }
@@ -71,15 +71,15 @@ impl Call {
             tuple,
         };
         match entry {
-            4 => Reply::of_ancestry(ancestry(bundle, scratch, n0, n1)),
-            5 => Reply::of_lookup(lookup(bundle, scratch, send)),
-            6 => Reply::of_send_type(send_type(bundle, scratch, row, send)),
-            7 => Reply::of_verdict(check(bundle, scratch)),
-            8 => Reply::of_witness(witness(bundle, scratch, n0, tuple)),
-            9 => Reply::of_run(run(bundle, scratch, send, count)),
-            10 => Reply::of_accepted(run_accepted(bundle, scratch, send, count)),
-            12 => Reply::of_chart(chart(bundle, scratch, row, n0, n1)),
-            13 => Reply::of_rough(rough(bundle, scratch, send)),
+            4 => Reply::from(ancestry(bundle, scratch, n0, n1)),
+            5 => Reply::from(lookup(bundle, scratch, send)),
+            6 => Reply::from(send_type(bundle, scratch, row, send)),
+            7 => Reply::from(check(bundle, scratch)),
+            8 => Reply::from(witness(bundle, scratch, n0, tuple)),
+            9 => Reply::from(run(bundle, scratch, send, count)),
+            10 => Reply::from(run_accepted(bundle, scratch, send, count)),
+            12 => Reply::from(chart(bundle, scratch, row, n0, n1)),
+            13 => Reply::from(rough(bundle, scratch, send)),
             _ => self.plain_reply(bundle, row),
         }
     }

@@ -107,13 +107,14 @@ fn run_call<R: Read>(
     scratch: &mut [u8; SCRATCH],
     tallies: &mut [u64; TALLIES],
 ) -> io::Result<bool> {
-    let asked = read_block(reader)?;
-    let answered = read_block(reader)?;
-    if !asked.is_whole || !answered.is_whole {
+    let Some(asked) = read_block(reader)? else {
         return Ok(false);
-    }
-    let call = Call::of_numbers(asked.numbers);
-    let expected = Expected::of_numbers(answered.numbers);
+    };
+    let Some(answered) = read_block(reader)? else {
+        return Ok(false);
+    };
+    let call = Call::of_numbers(asked);
+    let expected = Expected::of_numbers(answered);
     let mut left_row = [0u8; ROW];
     if !expected.read_row(reader, &mut left_row)? {
         return Ok(false);
@@ -157,12 +158,10 @@ fn run_bundle<R: Read>(
     scratch: &mut [u8; SCRATCH],
     tallies: &mut [u64; TALLIES],
 ) -> io::Result<bool> {
-    let head = read_block(reader)?;
-    let numbers = head.numbers;
-    let len = numbers[0];
-    if !head.is_whole {
+    let Some(numbers) = read_block(reader)? else {
         return Ok(false);
-    }
+    };
+    let len = numbers[0];
     if len > space.len() {
         return Ok(false);
     }

@@ -1,39 +1,38 @@
 // The body view and the body reader.
 use crate::replies::{UNLENT, UNLIKE, alone};
-use curiumtoad::instruction::{InstructionAnswer, nth_instruction};
+use curiumtoad::Refusal;
+use curiumtoad::instruction::nth_instruction;
 use curiumtoad::view::body_view;
 use layout::instruction::Instruction;
-use reader::{Reading, nth_reading, place_after, read_at};
+use reader::{nth_reading, place_after, read_at};
 use reply::Reply;
 use test_support::replies::is_same;
 
-// The record of a refusal and the length of the part, which is copied to the row.
+// The length of the part, which is copied to the row, or the record of a refusal.
 pub(crate) fn view_reply(bundle: &[u8], row: &mut [u8], method: usize) -> Reply {
-    // Numbers that no answer has, so that one which is left unwritten shows.
-    let mut refusal = u8::MAX;
-    let mut place = usize::MAX;
-    let part = body_view(bundle, method, &mut refusal, &mut place);
-    if part.len() > row.len() {
-        return alone(UNLENT);
+    match body_view(bundle, method) {
+        Ok(part) => {
+            if part.len() > row.len() {
+                return alone(UNLENT);
+            }
+            row[..part.len()].copy_from_slice(part);
+            Reply::given(0, part.len())
+        }
+        Err(refusal) => Reply::from(refusal),
     }
-    row[..part.len()].copy_from_slice(part);
-    Reply::pair(refusal, place, part.len())
 }
 
 // One more than the operation, and the operand, 0 for RESEND; both are 0 where no instruction is left.
-fn of_reading(reading: Reading) -> Reply {
-    match reading {
-        Reading::Instruction(instruction) => of_instruction(instruction),
-        Reading::End => alone(0),
-    }
+fn of_reading(reading: Option<Instruction>) -> Reply {
+    reading.map_or(alone(0), of_instruction)
 }
 
 fn of_instruction(instruction: Instruction) -> Reply {
     match instruction {
-        Instruction::Arg(place) => Reply::pair(0, 1, place),
-        Instruction::New(class) => Reply::pair(0, 2, class),
-        Instruction::Send(function) => Reply::pair(0, 3, function),
-        Instruction::Resend => Reply::pair(0, 4, 0),
+        Instruction::Arg(place) => Reply::given(1, place),
+        Instruction::New(class) => Reply::given(2, class),
+        Instruction::Send(function) => Reply::given(3, function),
+        Instruction::Resend => Reply::given(4, 0),
     }
 }
 
@@ -53,10 +52,10 @@ pub(crate) fn reading_reply(code: &[u8], position: usize) -> Reply {
     )
 }
 
-fn of_nth(answer: InstructionAnswer) -> Reply {
+fn of_nth(answer: Result<Option<Instruction>, Refusal>) -> Reply {
     match answer {
-        InstructionAnswer::Read(reading) => of_reading(reading),
-        InstructionAnswer::Refused(refusal) => Reply::of_refusal(refusal),
+        Ok(reading) => of_reading(reading),
+        Err(refusal) => Reply::from(refusal),
     }
 }
 
@@ -71,13 +70,10 @@ fn reached(code: &[u8], readings: usize) -> usize {
 
 // One reading after another over the part that the body view gives.
 fn by_steps(bundle: &[u8], method: usize, position: usize) -> Reply {
-    let mut refusal = 0u8;
-    let mut place = 0usize;
-    let code = body_view(bundle, method, &mut refusal, &mut place);
-    if refusal != 0 {
-        return Reply::pair(refusal, place, 0);
+    match body_view(bundle, method) {
+        Ok(code) => of_reading(read_at(code, reached(code, position))),
+        Err(refusal) => Reply::from(refusal),
     }
-    of_reading(read_at(code, reached(code, position)))
 }
 
 // A method's instruction, at once and by steps.

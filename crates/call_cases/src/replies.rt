@@ -10,5 +10,8 @@ pub(crate) const UNKNOWN: u8 = 102;
 
 // A number that comes alone.
 pub(crate) fn alone(number: u8) -> Reply {
-    Reply::pair(number, 0, 0)
+    Reply {
+        number,
+        values: [0; 8],
+    }
 }

@@ -7,8 +7,8 @@ use mathlib.Core.List.{List}
 use lib.ListN.{length, drop, length-append}
 use Rattle.rules.specs.Layout.{Answer, gives, refuses}
 use Rattle.rules.specs.Chart.{chart_call, line_on, buffer_after}
-use Rattle.chart_line.specs.declared.line.ChartAnswer.{ChartAnswer}
-use Rattle.chart_line.specs.declared.line.ChartAnswer.TheVariants.{Written}
+use Rattle.std.specs.Prelude.{Result, Ok}
+use Rattle.chart_line.specs.declared.line.ChartError.{ChartError}
 use Rattle.chart_line.specs.Charted.{chart_said, length_said}
 
 -- what an answer gives, 0 where it refuses
@@ -21,7 +21,7 @@ unfolding given line_on
 on_within (gives line) old n e = omega (arith, ap given e, length-append line (drop (length line) old))
 on_within (refuses number values) old n e = omega (arith, ap given e)
 
-pub line_within : (b old : List ℕ) (s f k n : ℕ) {r : ChartAnswer} {new : List ℕ} → r ≡ Written n → chart_said r ≡ length_said (chart_call b s (length old) f k) → new ≡ buffer_after b s old f k
+pub line_within : (b old : List ℕ) (s f k n : ℕ) {r : Result ℕ ChartError} {new : List ℕ} → r ≡ Ok n → chart_said r ≡ length_said (chart_call b s (length old) f k) → new ≡ buffer_after b s old f k
     → n ≤ length new
 unfolding buffer_after
 line_within b old s f k n e said after = rw after (on_within (chart_call b s (length old) f k) old n (sym (ap chart_said e) ∙ said))

@@ -1,35 +1,28 @@
 // Prints the chart of a function of two arguments: the bundle is on standard input, the function's number is the first argument. One line is held at a time.
 #![tactic(auto)]
 
-use curiumtoad::chart::{ChartAnswer, chart};
+use curiumtoad::chart::{ChartError, chart};
 use input::read_bundle;
 use layout::bundle::Bundle;
 use std::env::Env;
 use std::io;
-use text::listing::ListingAnswer;
 use text::refusal::chart_refusal;
 
-#[derive(Clone, Copy)]
-enum Argument {
-    Number(usize),
-    Unusable,
-}
-
 // A word of decimal digits as a number. Above every function's number it need not grow, since each is refused alike.
-fn number_of(word: &[u8]) -> Argument {
+fn number_of(word: &[u8]) -> Option<usize> {
     if word.is_empty() {
-        return Argument::Unusable;
+        return None;
     }
     let mut number = 0;
     for digit in word {
         if !digit.is_ascii_digit() {
-            return Argument::Unusable;
+            return None;
         }
         if number <= Bundle::FUNCTIONS {
             number = 10 * number + usize::from(*digit - b'0');
         }
     }
-    Argument::Number(number)
+    Some(number)
 }
 
 // Prints a line of the chart, or why there is none, and says whether to go on: behind the last line the chart is at its end.
@@ -37,14 +30,14 @@ fn print_line(rt: &impl Print, bundle: &[u8], function: usize, line: usize) -> i
     let mut scratch = [0u8; 65536];
     let mut text = [0u8; 4096];
     let answer = chart(bundle, &mut scratch, &mut text, function, line);
-    if let ChartAnswer::Written(n) = answer {
+    if let Ok(n) = answer {
         rt.write_all(&text[..n])?;
         return Ok(true);
     }
-    if let ChartAnswer::NoLine = answer {
+    if let Err(ChartError::NoLine) = answer {
         return Ok(false);
     }
-    if let ListingAnswer::Written(n) = chart_refusal(&mut text, answer) {
+    if let Ok(n) = chart_refusal(&mut text, answer) {
         rt.write_all(&text[..n])?;
     }
     Ok(false)
@@ -67,10 +60,10 @@ fn main(rt: HostRuntime) -> io::Result<()> {
     let mut word = [0u8; 4096];
     let argument = match rt.arg(1, &mut word) {
         Ok(n) => number_of(&word[..n]),
-        Err(_) => Argument::Unusable,
+        Err(_) => None,
     };
     match argument {
-        Argument::Number(function) => print_chart(&rt, &space[..len], function),
-        Argument::Unusable => rt.eprintln("usage: chart FUNCTION < BUNDLE"),
+        Some(function) => print_chart(&rt, &space[..len], function),
+        None => rt.eprintln("usage: chart FUNCTION < BUNDLE"),
     }
 }

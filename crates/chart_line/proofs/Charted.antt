@@ -2,7 +2,7 @@
 -- Assumes nothing.
 use Prim.Native.Nat.{ℕ, ◌+◌, ◌*◌, ◌<◌, ◌≤◌}
 use native.Mathlib.Omega.{arith}
-use mathlib.Core.Path.{refl, sym, ap}
+use mathlib.Core.Path.{◌≡◌, refl, sym, ap}
 use mathlib.Core.List.{List, [], ◌∷◌}
 use lib.ListN.{length, get_or}
 use borrow.Author.Tests.{lt-ltb}
@@ -28,6 +28,11 @@ pub charted_arguments : {M : Model} {f k : ℕ} {classes : List ℕ} → Charted
 unfolding present every
 charted_arguments g i j h l =
     record { function = g.function; arity = sym g.binary; classes = rw (lt-ltb _ _ (class_below g i h), lt-ltb _ _ (class_below g j l)) refl }
+
+-- a class of the bundle is one of them where it is concrete
+pub one_of : (M : Model) (k : ℕ) → k < M.classes → concrete_class M k ≡ M.concrete k
+unfolding concrete_class
+one_of M k h = rw (lt-ltb k M.classes h) refl
 
 -- there are no more of them than classes
 pub few_concretes : {M : Model} → Wellformed M → length (concretes M) ≤ max_classes

@@ -1,2 +1,1 @@
-pub mod Concretes
 pub mod Charted

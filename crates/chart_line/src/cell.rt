@@ -1,17 +1,13 @@
 // What stands in the four places of a column or of a line's heading.
 ghost use Rattle.std.specs.Prelude.{◌≡◌, ◌<◌, ◌≤◌, length, get_or};
-ghost use Rattle.rules.specs.Model.{Model, model_of};
+ghost use Rattle.rules.specs.Model.{Model};
 ghost use Rattle.rules.specs.Chart.{concretes, digit_at, number, entry, heading, cell};
-ghost use Rattle.subclasses.specs.Prepared.{Prepared};
-ghost use Rattle.dispatch.specs.Index.{Indexed};
-ghost use Rattle.answers.specs.Failures.{not_found};
+ghost use Rattle.layout.specs.Bundles.{model};
 ghost use Rattle.dispatch.specs.Found.{found_of};
 ghost use Rattle.chart_line.specs.Charted.{Charted};
 
 use answers::failure::NotFound;
-use dispatch::lookup::lookup;
-use dispatch::select::Found;
-use layout::bundle::Bundle;
+use dispatch::index::IndexedBundle;
 use layout::bytes::byte_at;
 
 // The digit of a number at a power of ten, or a blank where the number is below the power.
@@ -20,9 +16,10 @@ fn digit_at(power: usize, n: usize) -> u8
     ensures { result ≡ digit_at power n }
 {
     if n < power {
-        return b' ';
+        b' '
+    } else {
+        b'0' + (n / power % 10) as u8
     }
-    48 + (n / power % 10) as u8
 }
 
 // A number, right-aligned.
@@ -33,27 +30,18 @@ fn number(n: usize) -> [u8; 4]
         digit_at(1000, n),
         digit_at(100, n),
         digit_at(10, n),
-        48 + (n % 10) as u8,
+        b'0' + (n % 10) as u8,
     ]
 }
 
-// What stands for a send that finds no method.
-fn unfound(failed: NotFound) -> [u8; 4]
-    ensures { result ≡ entry (not_found failed) }
-{
-    match failed {
-        NotFound::Missing => [b' ', b' ', b' ', b'-'],
-        NotFound::Ambiguous(_, _) => [b' ', b' ', b' ', b'*'],
-    }
-}
-
 // What a send finds.
-fn entry(found: Found) -> [u8; 4]
+fn entry(found: Result<usize, NotFound>) -> [u8; 4]
     ensures { result ≡ entry (found_of found) }
 {
     match found {
-        Found::Method(m) => number(m),
-        Found::Fails(failed) => unfound(failed),
+        Ok(m) => number(m),
+        Err(NotFound::Missing) => [b' ', b' ', b' ', b'-'],
+        Err(NotFound::Ambiguous(_, _)) => [b' ', b' ', b' ', b'*'],
     }
 }
 
@@ -63,31 +51,27 @@ pub(crate) fn heading(classes: &[u8], k: usize) -> [u8; 4]
     ensures { (M : Model) → classes.now ≡ concretes M → result ≡ heading M k }
 {
     if k == 0 {
-        return [b' '; 4];
+        [b' '; 4]
+    } else {
+        number(byte_at(classes, k - 1))
     }
-    number(byte_at(classes, k - 1))
 }
 
 // The places of line k in the column of the i-th concrete class: its number in line 0, else what a send of the line's class and this one finds.
 pub(crate) fn cell(
-    bundle: &[u8],
-    b: Bundle,
-    scratch: &[u8],
-    index: &[usize],
+    indexed: &IndexedBundle<'_>,
     f: usize,
     classes: &[u8],
     k: usize,
     i: usize,
 ) -> [u8; 4]
-    requires prepared { Prepared bundle.now b scratch.now }
-    requires indexed { Indexed (model_of bundle.now) index.now }
-    requires charted { Charted (model_of bundle.now) f classes.now k }
+    requires charted { Charted (model indexed.now.prepared.bundle) f classes.now k }
     requires i_in_bounds { i < length classes.now }
-    ensures { result ≡ cell (model_of bundle.now) f k (get_or classes.now i 0) }
+    ensures { result ≡ cell (model indexed.now.prepared.bundle) f k (get_or classes.now i 0) }
 {
     if k == 0 {
-        return number(byte_at(classes, i));
+        number(byte_at(classes, i))
+    } else {
+        entry(indexed.lookup(f, &[classes[k - 1], classes[i]]))
     }
-    let args = [classes[k - 1], classes[i]];
-    entry(lookup(bundle, b, scratch, index, f, &args))
 }

@@ -1,104 +1,84 @@
 // The search for a broken signature. One that an earlier signature implies is passed over: it is broken only where that one is.
 ghost use Rattle.std.specs.Prelude.{◌≡◌, ◌<◌};
 ghost use Rattle.std.proofs.Math.Option.{some};
-ghost use Rattle.rules.specs.Model.{model_of};
 ghost use Rattle.rules.specs.Coverage.{broken_tuple, broken_signature, tuple_verdict};
+ghost use Rattle.layout.specs.Bundles.{model};
 ghost use Rattle.answers.specs.Findings.{verdict_said};
-ghost use Rattle.subclasses.specs.Prepared.{Prepared};
-ghost use Rattle.tuple_search.specs.Search.{Tables};
+ghost use Rattle.tuple_search.specs.Searches.{searched};
 ghost use Rattle.coverage.specs.Signatures.{signature_verdict};
 
-use answers::finding::{CoverageFinding, Finding, Verdict};
+use answers::finding::{CoverageFinding, Finding};
 use answers::send::Send;
 use coverage_rule::implied::implied;
-use coverage_rule::judge::{Judgement, judge};
-use layout::bundle::Bundle;
-use layout::field::{arity, sig_function};
-use layout::tuple::signature_classes;
+use coverage_rule::judge::judge;
+use dispatch::index::IndexedBundle;
 use method_sets::order::order_methods;
 use method_sets::sets::TABLE_WORDS;
-use method_sets::table::fill_table;
+use method_sets::table::MethodClass;
+use subclasses::prepared::PreparedBundle;
 use tuple_search::question::Question;
-use tuple_search::search::search_below;
+use tuple_search::tables::Search;
 
-// The verdict on signature s of function f, whose first broken tuple the arguments are.
-fn broken_by(bytes: &[u8], b: Bundle, scratch: &[u8], s: usize, f: usize, args: &[u8]) -> Verdict
-    requires prepared { Prepared bytes.now b scratch.now }
-    requires s_lt_signatures { s < b.signatures }
-    requires f_value { f ≡ (model_of bytes.now).sig_function s }
-    requires s_value { broken_tuple (model_of bytes.now) s ≡ some args.now }
-    ensures { let M = model_of bytes.now in verdict_said result ≡ tuple_verdict M s (broken_tuple M s) }
+// The verdict on signature s, whose first broken tuple the arguments are.
+fn broken_by(prepared: &PreparedBundle<'_>, s: usize, args: &[u8]) -> Result<(), Finding>
+    requires s_lt_signatures { s < prepared.now.bundle.tables.signatures }
+    requires first_broken { broken_tuple (model prepared.now.bundle) s ≡ some args.now }
+    ensures { let M = model prepared.now.bundle in verdict_said result ≡ tuple_verdict M s (broken_tuple M s) }
 {
-    match judge(bytes, b, scratch, s, args) {
-        Judgement::Holds(_) => Verdict::Accepted,
-        Judgement::Fails(failure) => {
+    match judge(prepared, s, args) {
+        Ok(_) => Ok(()),
+        Err(failure) => {
+            let send = Send::of(prepared.bundle.sig_function(s), args);
             let found = CoverageFinding {
                 signature: s,
-                send: Send::of(f, args),
+                send,
                 failure,
             };
-            Verdict::Refused(Finding::Coverage(found))
+            Err(Finding::Coverage(found))
         }
     }
 }
 
 // The verdict on signature s: a search of all its tuples.
-fn broken_tuple(
-    bytes: &[u8],
-    b: Bundle,
-    scratch: &[u8],
-    order: &[usize; Bundle::METHODS],
-    admits: &[u64; TABLE_WORDS],
-    holds: &[u64; TABLE_WORDS],
-    s: usize,
-) -> Verdict
-    requires prepared { Prepared bytes.now b scratch.now }
-    requires s_lt_signatures { s < b.signatures }
-    requires tables { Tables (model_of bytes.now) (Question.Rule s) order.now admits.now holds.now }
-    ensures { let M = model_of bytes.now in verdict_said result ≡ tuple_verdict M s (broken_tuple M s) }
+fn broken_tuple(search: &Search<'_>, s: usize) -> Result<(), Finding>
+    requires s_lt_signatures { s < search.now.indexed.now.prepared.bundle.tables.signatures }
+    requires question_value { search.now.question ≡ Question.Rule s }
+    ensures { let M = searched search.now in verdict_said result ≡ tuple_verdict M s (broken_tuple M s) }
 {
-    let f = sig_function(bytes, b, s);
-    let n = arity(bytes, b, f);
-    let upper = signature_classes(bytes, b, n, s);
-    let mut chosen = [0u8; Bundle::PLACES];
-    if !search_below(
-        bytes,
-        b,
-        scratch,
-        Question::Rule(s),
-        upper,
-        &mut chosen[..n],
-        order,
-        admits,
-        holds,
-    ) {
-        return Verdict::Accepted;
+    let prepared = &search.indexed.prepared;
+    let bundle = &prepared.bundle;
+    let f = bundle.sig_function(s);
+    let n = bundle.arity(f);
+    let upper = bundle.signature_classes(n, s);
+    match search.first_stop(upper) {
+        None => Ok(()),
+        Some(chosen) => broken_by(prepared, s, &chosen[..n]),
     }
-    broken_by(bytes, b, scratch, s, f, &chosen[..n])
 }
 
 // The verdict on the signatures: a search in number order, to the first that is broken, with the tables made once.
-pub fn broken_signature(bytes: &[u8], b: Bundle, scratch: &[u8]) -> Verdict
-    requires { Prepared bytes.now b scratch.now }
-    ensures { let M = model_of bytes.now in verdict_said result ≡ signature_verdict M (broken_signature M) }
+// The indexed bundle is lent again, for as long as the tables.
+pub fn broken_signature(indexed: &IndexedBundle<'_>) -> Result<(), Finding>
+    ensures { let M = model indexed.now.prepared.bundle in verdict_said result ≡ signature_verdict M (broken_signature M) }
 {
-    let order = order_methods(bytes, b);
-    let mut admits = [0u64; TABLE_WORDS];
-    fill_table(bytes, b, scratch, &order, false, &mut admits);
-    let mut holds = [0u64; TABLE_WORDS];
-    fill_table(bytes, b, scratch, &order, true, &mut holds);
-    let signatures = b.signatures;
-    let mut s = 0;
-    while s < signatures {
-        let signature = s;
-        s += 1;
-        if implied(bytes, b, scratch, signature) {
-            continue;
-        }
-        match broken_tuple(bytes, b, scratch, &order, &admits, &holds, signature) {
-            Verdict::Accepted => continue,
-            Verdict::Refused(found) => return Verdict::Refused(found),
+    let prepared = &indexed.prepared;
+    let bundle = &prepared.bundle;
+    let order = order_methods(bundle);
+    let mut admits = [0; TABLE_WORDS];
+    MethodClass::Specialiser.fill(prepared, &order, &mut admits);
+    let mut holds = [0; TABLE_WORDS];
+    MethodClass::Declared.fill(prepared, &order, &mut holds);
+    for s in 0..bundle.tables.signatures {
+        if !implied(prepared, s) {
+            let search = Search {
+                indexed: &*indexed,
+                question: Question::Rule(s),
+                order: &order,
+                admits: &admits,
+                holds: &holds,
+            };
+            broken_tuple(&search, s)?;
         }
     }
-    Verdict::Accepted
+    Ok(())
 }

@@ -6,18 +6,21 @@ ghost use Rattle.answers.specs.Findings.{verdict_said};
 ghost use Rattle.runs.specs.Said.{run_said};
 ghost use Rattle.curiumtoad.specs.Alike.{JudgedAlike};
 
-use answers::finding::{Finding, Verdict};
+use crate::check::early;
+use answers::finding::Finding;
 use answers::refusal::Refusal;
 use answers::send::Send;
-use preparation::begin::{Beginning, begin};
-use runs::run::{RunAnswer, run_in};
+use machine::run::Outcome;
+use preparation::begin::begin;
+use runs::run::run_in;
+use subclasses::prepared::PreparedBundle;
 use verdicts::check::check_in;
 
 // Both answers.
 #[derive(Clone, Copy)]
 pub struct CheckedRun {
-    pub verdict: Verdict,
-    pub outcome: RunAnswer,
+    pub verdict: Result<(), Finding>,
+    pub outcome: Result<Outcome, Refusal>,
 }
 
 // Checks the bundle and runs the send.
@@ -28,18 +31,16 @@ pub fn checked_run(bundle: &[u8], scratch: &mut [u8], send: Send, count: u32) ->
     ensures scratch_after { scratch.new ≡ scratch_after bundle.now scratch.old }
 {
     match begin(bundle, scratch) {
-        Beginning::Ready(b) => {
-            let verdict = check_in(bundle, b, scratch);
-            let outcome = run_in(bundle, b, scratch, send, count);
-            CheckedRun { verdict, outcome }
+        Ok(bundle) => {
+            let prepared = PreparedBundle { bundle, scratch };
+            CheckedRun {
+                verdict: check_in(&prepared),
+                outcome: run_in(&prepared, send, count),
+            }
         }
-        Beginning::Unopened(found) => CheckedRun {
-            verdict: Verdict::Refused(Finding::Layout(found)),
-            outcome: RunAnswer::Refused(Refusal::Layout(found)),
-        },
-        Beginning::ShortScratch => CheckedRun {
-            verdict: Verdict::Refused(Finding::Scratch),
-            outcome: RunAnswer::Refused(Refusal::Scratch),
+        Err(refusal) => CheckedRun {
+            verdict: Err(early(refusal)),
+            outcome: Err(refusal),
         },
     }
 }

@@ -2,29 +2,23 @@
 ghost use Rattle.std.specs.Prelude.{◌≡◌};
 ghost use Rattle.curiumtoad.specs.Instruction.{instruction_said, instruction_call};
 
-use answers::opening::Opening;
 use answers::refusal::Refusal;
 use bundle_rules::opening::open;
+use layout::instruction::Instruction;
 use reader::code::code_of;
-use reader::{Reading, nth_reading};
-
-// What is read, or a refusal.
-#[derive(Clone, Copy)]
-pub enum InstructionAnswer {
-    Read(Reading),
-    Refused(Refusal),
-}
+use reader::nth_reading;
 
 // Instruction n of a method, or that the method has no more.
-pub fn nth_instruction(bundle: &[u8], method: usize, n: usize) -> InstructionAnswer
+pub fn nth_instruction(
+    bundle: &[u8],
+    method: usize,
+    n: usize,
+) -> Result<Option<Instruction>, Refusal>
     ensures { instruction_said result ≡ instruction_call bundle.now method n }
 {
-    let opening = open(bundle);
-    let Opening::Opened(b) = opening else {
-        return InstructionAnswer::Refused(Refusal::Layout(opening.finding()));
-    };
-    if b.methods <= method {
-        return InstructionAnswer::Refused(Refusal::Absent);
+    let bundle = open(bundle)?;
+    if bundle.tables.methods <= method {
+        return Err(Refusal::Absent);
     }
-    InstructionAnswer::Read(nth_reading(code_of(bundle, b, method), n))
+    Ok(nth_reading(code_of(&bundle, method), n))
 }

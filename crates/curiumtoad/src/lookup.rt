@@ -4,20 +4,17 @@ ghost use Rattle.rules.specs.Calls.{lookup_call, scratch_after};
 ghost use Rattle.answers.specs.Send.{tuple_of};
 ghost use Rattle.questions.specs.Said.{lookup_said};
 
-use answers::refusal::Refusal;
 use answers::send::Send;
-use preparation::begin::{Beginning, begin};
-pub use questions::lookup::LookupAnswer;
+use preparation::begin::begin;
 use questions::lookup::lookup_in;
+pub use questions::lookup::{LookupError, Match};
+use subclasses::prepared::PreparedBundle;
 
 // What a send of the function with these classes, abstract ones too, finds.
-pub fn lookup(bundle: &[u8], scratch: &mut [u8], send: Send) -> LookupAnswer
+pub fn lookup(bundle: &[u8], scratch: &mut [u8], send: Send) -> Result<Match, LookupError>
     ensures result_value { lookup_said result ≡ lookup_call bundle.now (length scratch.old) send.function (tuple_of send) }
     ensures scratch_after { scratch.new ≡ scratch_after bundle.now scratch.old }
 {
-    match begin(bundle, scratch) {
-        Beginning::Ready(b) => lookup_in(bundle, b, scratch, send),
-        Beginning::Unopened(found) => LookupAnswer::Refused(Refusal::Layout(found)),
-        Beginning::ShortScratch => LookupAnswer::Refused(Refusal::Scratch),
-    }
+    let bundle = begin(bundle, scratch)?;
+    lookup_in(&PreparedBundle { bundle, scratch }, send)
 }

@@ -5,21 +5,23 @@ ghost use Rattle.rules.specs.Accepted.{accepted_call};
 ghost use Rattle.answers.specs.Send.{tuple_of};
 ghost use Rattle.sound_runs.specs.Accepted.{accepted_said, EndsSoundly};
 
-use answers::refusal::Refusal;
 use answers::send::Send;
-use preparation::begin::{Beginning, begin};
-pub use sound_runs::accepted::AcceptedRun;
+use preparation::begin::begin;
 use sound_runs::accepted::accepted_in;
+pub use sound_runs::accepted::{AcceptedError, SoundEnd, SoundRun};
+use subclasses::prepared::PreparedBundle;
 
 // Runs the send if the bundle is accepted and some signature covers the send. Nothing runs before both are known.
-pub fn run_accepted(bundle: &[u8], scratch: &mut [u8], send: Send, count: u32) -> AcceptedRun
+pub fn run_accepted(
+    bundle: &[u8],
+    scratch: &mut [u8],
+    send: Send,
+    count: u32,
+) -> Result<SoundRun, AcceptedError>
     ensures result_value { accepted_said result ≡ accepted_call bundle.now (length scratch.old) send.function (tuple_of send) count }
     ensures ends_soundly { EndsSoundly bundle.now (length scratch.old) send.function (tuple_of send) count (accepted_said result) }
     ensures scratch_after { scratch.new ≡ scratch_after bundle.now scratch.old }
 {
-    match begin(bundle, scratch) {
-        Beginning::Ready(b) => accepted_in(bundle, b, scratch, send, count),
-        Beginning::Unopened(found) => AcceptedRun::Refused(Refusal::Layout(found)),
-        Beginning::ShortScratch => AcceptedRun::Refused(Refusal::Scratch),
-    }
+    let bundle = begin(bundle, scratch)?;
+    accepted_in(&PreparedBundle { bundle, scratch }, send, count)
 }

@@ -5,20 +5,22 @@ ghost use Rattle.answers.specs.Send.{classes_of};
 ghost use Rattle.verdicts.specs.Said.{witness_said};
 
 pub use answers::finding::CoverageFinding;
-use answers::refusal::Refusal;
 use answers::send::Tuple;
-use preparation::begin::{Beginning, begin};
-pub use verdicts::witness::WitnessAnswer;
+use preparation::begin::begin;
+use subclasses::prepared::PreparedBundle;
+pub use verdicts::witness::WitnessError;
 use verdicts::witness::witness_in;
 
 // The coverage rule's answer for a signature and a tuple of concrete classes that it covers.
-pub fn witness(bundle: &[u8], scratch: &mut [u8], signature: usize, tuple: Tuple) -> WitnessAnswer
+pub fn witness(
+    bundle: &[u8],
+    scratch: &mut [u8],
+    signature: usize,
+    tuple: Tuple,
+) -> Result<(), WitnessError>
     ensures result_value { witness_said result ≡ witness_call bundle.now (length scratch.old) signature (classes_of tuple) }
     ensures scratch_after { scratch.new ≡ scratch_after bundle.now scratch.old }
 {
-    match begin(bundle, scratch) {
-        Beginning::Ready(b) => witness_in(bundle, b, scratch, signature, tuple),
-        Beginning::Unopened(found) => WitnessAnswer::Refused(Refusal::Layout(found)),
-        Beginning::ShortScratch => WitnessAnswer::Refused(Refusal::Scratch),
-    }
+    let bundle = begin(bundle, scratch)?;
+    witness_in(&PreparedBundle { bundle, scratch }, signature, tuple)
 }

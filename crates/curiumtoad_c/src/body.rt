@@ -4,22 +4,22 @@ ghost use Rattle.rules.specs.Calls.{body_view_call};
 ghost use Rattle.reply.specs.Replies.{reply};
 ghost use Rattle.curiumtoad_c.specs.Exported.{placed};
 
-use answers::number::ABSENT;
-use answers::opening::Opening;
-use curiumtoad::opening::open;
-use layout::field::body_span;
+use answers::number::Number;
+use bundle_rules::opening::open;
 use reply::Reply;
 
 pub(crate) fn body_place(bundle: &[u8], method: usize) -> Reply
     ensures { result ≡ reply (placed bundle.now method) (body_view_call bundle.now method) }
 {
-    let opening = open(bundle);
-    let Opening::Opened(b) = opening else {
-        return Reply::of_opening(opening);
-    };
-    if b.methods <= method {
-        return Reply::pair(ABSENT, 0, 0);
+    match open(bundle) {
+        Err(found) => Reply::from(found),
+        Ok(bundle) => {
+            if bundle.tables.methods <= method {
+                Reply::refused(Number::Absent, 0, 0)
+            } else {
+                let span = bundle.body_span(method);
+                Reply::given(span.at, span.len)
+            }
+        }
     }
-    let span = body_span(bundle, b, method);
-    Reply::pair(0, span.at, span.len)
 }

@@ -28,7 +28,7 @@ use curiumtoad::send_type::send_type;
 use curiumtoad::witness::witness;
 use curiumtoad::{Send, Tuple};
 use reply::Reply;
-use text::listing::listing;
+use text::listing::{listing, listing_reply};
 
 // Writes the values, and gives the number.
 fn give(values: &mut [usize; 8], reply: Reply) -> u8
@@ -52,7 +52,7 @@ pub extern "C" fn curiumtoad_version() -> u32
 pub extern "C" fn curiumtoad_open(bundle: &[u8], values: &mut [usize; 8]) -> u8
     ensures { Handed (reply counts (opening_call bundle.now)) result values.new }
 {
-    give(values, Reply::of_opening(open(bundle)))
+    give(values, Reply::from(open(bundle)))
 }
 
 // The ancestry question: 1 for the same class, 2 for an heir, 0 for neither.
@@ -68,7 +68,7 @@ pub extern "C" fn curiumtoad_ancestry(
     ensures scratch_after { scratch.new ≡ scratch_after bundle.now scratch.old }
 {
     let answer = ancestry(bundle, scratch, a, b);
-    give(values, Reply::of_ancestry(answer))
+    give(values, Reply::from(answer))
 }
 
 // Lookup: the method found, and 1 where it is exact.
@@ -88,7 +88,7 @@ pub extern "C" fn curiumtoad_lookup(
     let tuple = Tuple { a0, a1, a2 };
     let send = Send { function, tuple };
     let answer = lookup(bundle, scratch, send);
-    give(values, Reply::of_lookup(answer))
+    give(values, Reply::from(answer))
 }
 
 // The send type: the type is in the row.
@@ -110,7 +110,7 @@ pub extern "C" fn curiumtoad_send_type(
     let tuple = Tuple { a0, a1, a2 };
     let send = Send { function, tuple };
     let answer = send_type(bundle, scratch, row, send);
-    give(values, Reply::of_send_type(answer))
+    give(values, Reply::from(answer))
 }
 
 // A line of a chart: its length, with the line in the buffer.
@@ -128,7 +128,7 @@ pub extern "C" fn curiumtoad_chart(
     ensures text_after { text.new ≡ buffer_after bundle.now (length scratch.old) text.old function line }
 {
     let answer = chart(bundle, scratch, text, function, line);
-    give(values, Reply::of_chart(answer))
+    give(values, Reply::from(answer))
 }
 
 // The rough call: what the first value says, and where it is 0 the method.
@@ -148,7 +148,7 @@ pub extern "C" fn curiumtoad_rough(
     let tuple = Tuple { a0, a1, a2 };
     let send = Send { function, tuple };
     let answer = rough(bundle, scratch, send);
-    give(values, Reply::of_rough(answer))
+    give(values, Reply::from(answer))
 }
 
 // The witness check: the rule holds, or 10 to 13.
@@ -167,7 +167,7 @@ pub extern "C" fn curiumtoad_witness(
 {
     let tuple = Tuple { a0, a1, a2 };
     let answer = witness(bundle, scratch, signature, tuple);
-    give(values, Reply::of_witness(answer))
+    give(values, Reply::from(answer))
 }
 
 // The body view: where the method's code begins within the bundle, and its length.
@@ -185,7 +185,7 @@ pub extern "C" fn curiumtoad_check(bundle: &[u8], scratch: &mut [u8], values: &m
     ensures scratch_after { scratch.new ≡ scratch_after bundle.now scratch.old }
 {
     let verdict = check(bundle, scratch);
-    give(values, Reply::of_verdict(verdict))
+    give(values, Reply::from(verdict))
 }
 
 // A run: its ending, and the steps made.
@@ -206,7 +206,7 @@ pub extern "C" fn curiumtoad_run(
     let tuple = Tuple { a0, a1, a2 };
     let send = Send { function, tuple };
     let answer = run(bundle, scratch, send, count);
-    give(values, Reply::of_run(answer))
+    give(values, Reply::from(answer))
 }
 
 // A run of an accepted bundle whose opening send some signature covers.
@@ -228,7 +228,7 @@ pub extern "C" fn curiumtoad_run_accepted(
     let tuple = Tuple { a0, a1, a2 };
     let send = Send { function, tuple };
     let answer = run_accepted(bundle, scratch, send, count);
-    give(values, Reply::of_accepted(answer))
+    give(values, Reply::from(answer))
 }
 
 // The listing: its length, with the text in the buffer; or 20, and the buffer is as it was. 512 bytes are enough for any.
@@ -239,5 +239,5 @@ pub extern "C" fn curiumtoad_listing(bundle: &[u8], text: &mut [u8], values: &mu
     ensures value { 512 ≤ length text.old → result ≡ 0 }
 {
     let answer = listing(bundle, text);
-    give(values, answer.reply())
+    give(values, listing_reply(answer))
 }

@@ -1,4 +1,3 @@
 pub mod Listed
 pub mod Rivals
-pub mod Kept
 pub mod Indexed

@@ -66,8 +66,8 @@ module _ {M : Model} {f : ℕ} {ms : List ℕ} (u : Unled M f ms) where
     pub next_there : 0 < length (rivals_before M ms r)
     next_there = omega (arith, two_there, ap length last.last)
 
-    pub both_named : {s : ℕ} → LastRival M ms r s → ambiguous (get_or ms r 0) (get_or ms s 0) ≡ select M ms
+    pub both_named : {s m n : ℕ} → LastRival M ms r s → m ≡ get_or ms r 0 → n ≡ get_or ms s 0 → ambiguous m n ≡ select M ms
     unfolding leader_or
-    both_named {s} next =
+    both_named {s} next e g =
         let listed = sym (before_all M ms) ∙ last.last ∙ ap (λ (l : List ℕ). get_or ms r 0 ∷ l) next.last in
-        sym (none_selected M ms u.some u.free ∙ ap (leader_or none) listed)
+        rw (e, g) (sym (none_selected M ms u.some u.free ∙ ap (leader_or none) listed))

@@ -1,60 +1,46 @@
 // The methods that apply to a send, but one.
-ghost use Rattle.std.specs.Prelude.{◌≡◌, true, not, ◌&&◌, ◌≤◌, eqb, length};
-ghost use Rattle.rules.specs.Model.{model_of, present};
-ghost use Rattle.rules.specs.Layout.{max_methods};
+ghost use Rattle.std.specs.Prelude.{◌≡◌, [], true, ◌&&◌, length};
+ghost use Rattle.rules.specs.Model.{present};
 ghost use Rattle.rules.specs.Lookup.{applies};
 ghost use Rattle.layout.specs.Arity.{OfArity};
-ghost use Rattle.subclasses.specs.Prepared.{Prepared};
+ghost use Rattle.layout.specs.Bundles.{model};
 ghost use Rattle.subclasses.specs.Places.{Arguments};
-ghost use Rattle.dispatch.specs.Index.{Indexed};
-ghost use Rattle.dispatch.specs.Listed.{applicable_but, Written};
+ghost use Rattle.dispatch.specs.Listed.{other_than, applicable_without};
 
+use crate::index::IndexedBundle;
+use arrayvec::ArrayVec;
 use layout::bundle::Bundle;
-use layout::tuple::specialisers;
-use subclasses::places::each_under;
+use subclasses::prepared::PreparedBundle;
 
 // Whether method m applies to the arguments, each class being under the specialiser at its place, and is another than `but`. Few apply, so that is asked last.
-fn applies(bytes: &[u8], b: Bundle, scratch: &[u8], args: &[u8], but: usize, m: usize) -> bool
-    requires prepared { Prepared bytes.now b scratch.now }
-    requires of_arity { OfArity (model_of bytes.now) (length args.now) m }
-    requires args_value { present (model_of bytes.now) args.now ≡ true }
-    ensures { result ≡ (applies (model_of bytes.now) args.now m && not (eqb m but)) }
+fn applies(prepared: &PreparedBundle<'_>, args: &[u8], but: Option<usize>, m: usize) -> bool
+    requires of_arity { OfArity (model prepared.now.bundle) (length args.now) m }
+    requires args_value { present (model prepared.now.bundle) args.now ≡ true }
+    ensures { result ≡ (applies (model prepared.now.bundle) args.now m && other_than but m) }
 {
-    if !each_under(scratch, args, specialisers(bytes, b, args.len(), m)) {
-        return false;
-    }
-    m != but
+    prepared.each_under(args, prepared.bundle.specialisers(args.len(), m)) && Some(m) != but
 }
 
-// Writes the methods of function f that apply to the arguments into the list, without `but`, rising, and says how many there are. The index leads to those of
-// the function alone.
+// Puts the methods of function f that apply to the arguments, without `but`, into an empty list, rising. The index leads to those of the function alone. The list is
+// lent, since one that is handed out would be copied at each lookup.
 pub(crate) fn applicable(
-    bytes: &[u8],
-    b: Bundle,
-    scratch: &[u8],
-    index: &[usize],
+    indexed: &IndexedBundle<'_>,
     f: usize,
     args: &[u8],
-    but: usize,
-    list: &mut [u16],
-) -> usize
-    requires prepared { Prepared bytes.now b scratch.now }
-    requires indexed { Indexed (model_of bytes.now) index.now }
-    requires arguments { Arguments (model_of bytes.now) f args.now }
-    requires max_methods_in_bounds { max_methods ≤ length list.old }
-    ensures { Written (applicable_but (model_of bytes.now) f args.now but) list.old list.new result }
+    but: Option<usize>,
+    list: &mut ArrayVec<u16, { Bundle::METHODS }>,
+)
+    requires arguments { Arguments (model indexed.now.prepared.bundle) f args.now }
+    requires empty { list.old.items ≡ [] }
+    ensures { list.new.items ≡ applicable_without (model indexed.now.prepared.bundle) f args.now but }
 {
-    let methods = b.methods;
-    let mut count = 0;
-    let mut m = index[f];
-    while m < methods {
-        let k = m;
-        m = index[Bundle::FUNCTIONS + k];
-        if !applies(bytes, b, scratch, args, but, k) {
-            continue;
+    let mut next = indexed.first[f];
+    // A `while`: each method leads to the next one of its function.
+    while let Some(m) = next {
+        let k = usize::from(m);
+        if applies(&indexed.prepared, args, but, k) {
+            list.push(m);
         }
-        list[count] = k as u16;
-        count += 1;
+        next = indexed.next[k];
     }
-    count
 }

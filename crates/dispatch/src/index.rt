@@ -1,28 +1,37 @@
 // The index of a bundle's methods: by it the methods of a function are found, rising, without asking those of the others.
-ghost use Rattle.rules.specs.Model.{model_of};
-ghost use Rattle.layout.specs.Opened.{Opened};
-ghost use Rattle.dispatch.specs.Index.{Indexed};
+ghost use Rattle.std.specs.Prelude.{◌≡◌};
+ghost use Rattle.layout.specs.Bundles.{model};
+ghost use Rattle.dispatch.specs.Index.{Indexed, Indexed-prop};
 
 use layout::bundle::Bundle;
-use layout::field::function;
+use subclasses::prepared::PreparedBundle;
 
-// An entry for each function, and behind them one for each method.
-pub const SIZE: usize = Bundle::FUNCTIONS + Bundle::METHODS;
+// A prepared bundle with the index of its methods: the lowest method of each function, and behind each method the next of the same function. Two bytes are
+// enough for a method.
+#[derive(Clone, Copy)]
+pub struct IndexedBundle<'a> {
+    pub prepared: PreparedBundle<'a>,
+    pub first: [Option<u16>; Bundle::FUNCTIONS],
+    pub next: [Option<u16>; Bundle::METHODS],
+    pub ghost indexed: { Indexed (model prepared.bundle) first next } by { Indexed-prop (model prepared.bundle) first next },
+}
 
-// The lowest method of each function, and behind each method the next of the same function; the count of methods stands for none. It is made from the
-// highest method down, so that a function's entry is the next of the method that comes.
-pub fn index_methods(bytes: &[u8], b: Bundle) -> [usize; SIZE]
-    requires { Opened bytes.now b }
-    ensures { Indexed (model_of bytes.now) result }
-{
-    let methods = b.methods;
-    let mut index = [methods; SIZE];
-    let mut m = methods;
-    while 0 < m {
-        m -= 1;
-        let f = function(bytes, b, m);
-        index[Bundle::FUNCTIONS + m] = index[f];
-        index[f] = m;
+impl<'a> IndexedBundle<'a> {
+    // The index is made from the highest method down, so that a function's entry is the next of the method that comes.
+    pub fn new(prepared: &PreparedBundle<'a>) -> IndexedBundle<'a>
+        ensures { result.prepared ≡ prepared.now }
+    {
+        let mut first = [None; Bundle::FUNCTIONS];
+        let mut next = [None; Bundle::METHODS];
+        for m in (0..prepared.bundle.tables.methods).rev() {
+            let f = prepared.bundle.function(m);
+            next[m] = first[f];
+            first[f] = Some(m as u16);
+        }
+        IndexedBundle {
+            prepared: *prepared,
+            first,
+            next,
+        }
     }
-    index
 }

@@ -1,51 +1,39 @@
 // Lookup: the applicable methods of a send, and the one that leads them.
 ghost use Rattle.std.specs.Prelude.{◌≡◌};
-ghost use Rattle.rules.specs.Model.{model_of};
 ghost use Rattle.rules.specs.Lookup.{select, lookup};
-ghost use Rattle.subclasses.specs.Prepared.{Prepared};
+ghost use Rattle.layout.specs.Bundles.{model};
 ghost use Rattle.subclasses.specs.Places.{Arguments};
-ghost use Rattle.dispatch.specs.Index.{Indexed};
-ghost use Rattle.dispatch.specs.Listed.{applicable_but};
+ghost use Rattle.dispatch.specs.Listed.{applicable_without};
 ghost use Rattle.dispatch.specs.Found.{found_of};
 
 use crate::applicable::applicable;
-use crate::select::{Found, select};
-use layout::bundle::Bundle;
+use crate::index::IndexedBundle;
+use crate::select::Candidates;
+use answers::failure::NotFound;
+use arrayvec::ArrayVec;
 
-// The leader of the methods of function f that apply to the arguments, without `but`. A lookup leaves none out.
-pub fn find(
-    bytes: &[u8],
-    b: Bundle,
-    scratch: &[u8],
-    index: &[usize],
-    f: usize,
-    args: &[u8],
-    but: usize,
-) -> Found
-    requires prepared { Prepared bytes.now b scratch.now }
-    requires indexed { Indexed (model_of bytes.now) index.now }
-    requires arguments { Arguments (model_of bytes.now) f args.now }
-    ensures { let M = model_of bytes.now in found_of result ≡ select M (applicable_but M f args.now but) }
-{
-    // Two bytes are enough for a method, and the list is cleared for each lookup.
-    let mut list = [0u16; Bundle::METHODS];
-    let count = applicable(bytes, b, scratch, index, f, args, but, &mut list);
-    select(bytes, b, scratch, f, args.len(), &list[..count])
-}
+impl IndexedBundle<'_> {
+    // The leader of the methods of function f that apply to the arguments, without `but`, or why there is none. A lookup leaves none out.
+    pub fn find(&self, f: usize, args: &[u8], but: Option<usize>) -> Result<usize, NotFound>
+        requires { Arguments (model self.now.prepared.bundle) f args.now }
+        ensures { let M = model self.now.prepared.bundle in found_of result ≡ select M (applicable_without M f args.now but) }
+    {
+        let mut list = ArrayVec::new();
+        applicable(self, f, args, but, &mut list);
+        let candidates = Candidates {
+            prepared: &self.prepared,
+            f,
+            n: args.len(),
+            list: list.as_slice(),
+        };
+        candidates.select()
+    }
 
-// What a send of function f finds for the argument classes at its places.
-pub fn lookup(
-    bytes: &[u8],
-    b: Bundle,
-    scratch: &[u8],
-    index: &[usize],
-    f: usize,
-    args: &[u8],
-) -> Found
-    requires prepared { Prepared bytes.now b scratch.now }
-    requires indexed { Indexed (model_of bytes.now) index.now }
-    requires arguments { Arguments (model_of bytes.now) f args.now }
-    ensures { found_of result ≡ lookup (model_of bytes.now) f args.now }
-{
-    find(bytes, b, scratch, index, f, args, b.methods)
+    // What a send of function f finds for the argument classes at its places.
+    pub fn lookup(&self, f: usize, args: &[u8]) -> Result<usize, NotFound>
+        requires { Arguments (model self.now.prepared.bundle) f args.now }
+        ensures { found_of result ≡ lookup (model self.now.prepared.bundle) f args.now }
+    {
+        self.find(f, args, None)
+    }
 }

@@ -1,4 +1,4 @@
--- The lent arrays of a run: of each frame three numbers, and bytes for its argument classes and its values, bottom first.
+-- The arrays of a run: of each frame three numbers, and bytes for its argument classes and its values, bottom first.
 -- Assumes nothing.
 use Rattle.std.specs.Prelude.{ℕ, ◌+◌, ◌*◌, ◌≤◌, ◌<◌, List, length, get_or, set}
 use Rattle.std.proofs.Math.Seq.{paste}

@@ -1,5 +1,5 @@
-// The frames of a run in two lent arrays. Of each frame the one holds three numbers: its method, its next instruction and the height of its stack; the
-// other holds bytes: its argument classes, and then its values, bottom first.
+// The frames of a run. Of each frame one array holds three numbers: its method, its next instruction and the height of its stack; the other holds
+// bytes: its argument classes, and then its values, bottom first.
 #![tactic(auto)]
 
 pub mod frame;

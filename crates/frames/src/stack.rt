@@ -3,56 +3,57 @@ ghost use Rattle.std.specs.Prelude.{◌≡◌, ◌+◌, ◌-◌, ◌<◌, ◌≤
 ghost use Rattle.rules.specs.Bytes.{part};
 ghost use Rattle.rules.specs.Layout.{places, padded};
 ghost use Rattle.rules.specs.Machine.{max_frames};
-ghost use Rattle.frames.specs.Arrays.{stack_room, stack_at, height_at, HasFrame, HasStack, raised, laid, lowered};
+ghost use Rattle.frames.specs.Arrays.{stack_room, stack_at, height_at, raised, laid, lowered};
 
-use crate::frame::{FRAME_BYTES, FRAME_NUMBERS};
+use crate::frame::{FRAME_BYTES, FRAME_NUMBERS, Frames};
 use layout::bundle::Bundle;
 use layout::bytes::{class_at, part};
 use subclasses::tuple::padded_tuple;
 
-// How many values frame k has.
-pub fn height(frames: &[usize], k: usize) -> usize
-    requires { HasFrame frames.now k }
-    ensures { result ≡ height_at frames.now k }
-{
-    frames[FRAME_NUMBERS * k + 2]
-}
+impl Frames {
+    // How many values frame k has.
+    pub fn height(&self, k: usize) -> usize
+        requires { k < max_frames }
+        ensures { result ≡ height_at self.now.numbers k }
+    {
+        self.numbers[FRAME_NUMBERS * k + 2]
+    }
 
-// The lowest value of frame k.
-pub fn lowest(values: &[u8], k: usize) -> usize
-    requires { k < max_frames }
-    ensures { (result ≡ get_or values.now (stack_at k) 0) × (result < 256) }
-{
-    class_at(values, FRAME_BYTES * k + Bundle::PLACES)
-}
+    // The lowest value of frame k.
+    pub fn lowest(&self, k: usize) -> usize
+        requires { k < max_frames }
+        ensures { (result ≡ get_or self.now.values (stack_at k) 0) × (result < 256) }
+    {
+        class_at(&self.values, FRAME_BYTES * k + Bundle::PLACES)
+    }
 
-// Puts a value on the stack of frame k.
-pub fn push(frames: &mut [usize], values: &mut [u8], k: usize, v: usize)
-    requires has_frame { HasFrame frames.old k }
-    requires has_stack { HasStack values.old k }
-    requires k_bound { height_at frames.old k < stack_room }
-    requires v_bound { v < 256 }
-    ensures frames_after { frames.new ≡ raised frames.old k }
-    ensures values_after { values.new ≡ laid frames.old values.old k v }
-{
-    let h = frames[FRAME_NUMBERS * k + 2];
-    values[FRAME_BYTES * k + Bundle::PLACES + h] = v as u8;
-    frames[FRAME_NUMBERS * k + 2] = h + 1;
-}
+    // Puts a value on the stack of frame k.
+    pub fn push(&mut self, k: usize, v: usize)
+        requires k_lt_max_frames { k < max_frames }
+        requires height_bound { height_at self.old.numbers k < stack_room }
+        requires v_bound { v < 256 }
+        ensures numbers_after { self.new.numbers ≡ raised self.old.numbers k }
+        ensures values_after { self.new.values ≡ laid self.old.numbers self.old.values k v }
+    {
+        let h = self.numbers[FRAME_NUMBERS * k + 2];
+        self.values[FRAME_BYTES * k + Bundle::PLACES + h] = v as u8;
+        self.numbers[FRAME_NUMBERS * k + 2] = h + 1;
+    }
 
-// Takes the n top values of frame k off its stack, as a tuple: the topmost is the last.
-pub fn pop(frames: &mut [usize], values: &[u8], k: usize, n: usize) -> [u8; Bundle::PLACES]
-    requires has_frame { HasFrame frames.old k }
-    requires has_stack { HasStack values.now k }
-    requires k_bound { height_at frames.old k ≤ stack_room }
-    requires n_bound { n ≤ height_at frames.old k }
-    requires n_le_places { n ≤ places }
-    ensures value { result ≡ padded (part values.now (stack_at k + (height_at frames.old k - n)) n) }
-    ensures frames_after { frames.new ≡ lowered frames.old k (height_at frames.old k - n) }
-{
-    let h = frames[FRAME_NUMBERS * k + 2];
-    let low = h - n;
-    frames[FRAME_NUMBERS * k + 2] = low;
-    let from = FRAME_BYTES * k + Bundle::PLACES + low;
-    padded_tuple(part(values, from, n))
+    // Takes the n top values of frame k off its stack, as a tuple: the topmost is the last.
+    pub fn pop(&mut self, k: usize, n: usize) -> [u8; Bundle::PLACES]
+        requires k_lt_max_frames { k < max_frames }
+        requires height_bound { height_at self.old.numbers k ≤ stack_room }
+        requires n_bound { n ≤ height_at self.old.numbers k }
+        requires n_le_places { n ≤ places }
+        ensures value { result ≡ padded (part self.old.values (stack_at k + (height_at self.old.numbers k - n)) n) }
+        ensures numbers_after { self.new.numbers ≡ lowered self.old.numbers k (height_at self.old.numbers k - n) }
+        ensures values_after { self.new.values ≡ self.old.values }
+    {
+        let h = self.numbers[FRAME_NUMBERS * k + 2];
+        let low = h - n;
+        self.numbers[FRAME_NUMBERS * k + 2] = low;
+        let from = FRAME_BYTES * k + Bundle::PLACES + low;
+        padded_tuple(part(&self.values, from, n))
+    }
 }

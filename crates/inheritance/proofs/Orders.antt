@@ -3,12 +3,12 @@
 use Prim.Native.Nat.{ℕ, zero, suc, ◌+◌, ◌≤◌, ◌<◌}
 use native.Mathlib.Omega.{arith}
 use mathlib.Core.Path.{◌≡◌, refl, sym, ap, ◌∙◌}
-use mathlib.Core.Bool.{true, false, false≢true}
+use mathlib.Core.Bool.{Bool, true, false, false≢true}
 use mathlib.Core.Logic.{◌⊎◌, inl, inr}
-use mathlib.Core.List.{List, [], ◌∷◌, Memᴰ}
+use mathlib.Core.List.{List, [], ◌∷◌, ◌++◌, Memᴰ}
 use lib.Dec.{eqb, ltb}
-use lib.ListN.{length, get_or, set, replicate, length-set, get_or-replicate}
-use lib.Seq.{get_or-set_same, get_or-set_other}
+use lib.ListN.{length, get_or, set, replicate, length-set, length-append, get_or-append, get_or-replicate}
+use lib.Seq.{get_or-set_same, get_or-set_other, get_or-append_seam}
 use borrow.Author.Tests.{ltb-true, ltb-false, lt-ltb, eqb-true, eqb-false}
 use Rattle.rules.specs.Bounded.{upto, every}
 use Rattle.rules.specs.Layout.{max_classes, rises_above, rises}
@@ -16,6 +16,7 @@ use Rattle.rules.specs.Inheritance.{Reaches, itself, parent, Inherits, inherits}
 use Rattle.rules.proofs.Lists.{test, agree, and_left, and_right, every_mem, every_place, every_places, keep_fewer, keep_upto_length, below_upto}
 use Rattle.rules.proofs.Decides.{refuted}
 use Rattle.rules.proofs.Inheritance.{reaches_compose, inherits_decides}
+use Rattle.std.specs.Prelude.{Option, Some, None, is_some, MatchOption}
 use Rattle.inheritance.specs.Order.{is_placed, lower, in_number_order, Acyclic, Placing, Whole}
 
 -- a list that rises strictly has nothing above its last number
@@ -55,128 +56,124 @@ cycle_parent {d = d} itself m = (d, m, itself)
 cycle_parent (parent {p = q} k u) m = (q, k, reaches_compose u (parent m itself))
 
 -- a class that is marked, and the others
-pub marked_own : (placed : List ℕ) (x : ℕ) → x < length placed → is_placed (set placed x 1) x ≡ true
-unfolding is_placed
-marked_own placed x h = rw (get_or-set_same placed x 1 0 h)
+pub marked_own : (placed : List Bool) (x : ℕ) → x < length placed → is_placed (set placed x true) x ≡ true
+marked_own placed x h = get_or-set_same placed x true false h
 
-pub marked_other : (placed : List ℕ) (x c : ℕ) → (c ≡ x → ⊥) → is_placed (set placed x 1) c ≡ is_placed placed c
-unfolding is_placed
-marked_other placed x c d = rw (get_or-set_other placed x c 1 0 d)
+pub marked_other : (placed : List Bool) (x c : ℕ) → (c ≡ x → ⊥) → is_placed (set placed x true) c ≡ is_placed placed c
+marked_other placed x c d = get_or-set_other placed x c true false d
 
 -- what was marked still is
-pub marked_still : (placed : List ℕ) (x c : ℕ) → x < length placed → is_placed placed c ≡ true → is_placed (set placed x 1) c ≡ true
+pub marked_still : (placed : List Bool) (x c : ℕ) → x < length placed → is_placed placed c ≡ true → is_placed (set placed x true) c ≡ true
 marked_still placed x c h t = go (test (eqb c x))
   where
-    go : (eqb c x ≡ true) ⊎ (eqb c x ≡ false) → is_placed (set placed x 1) c ≡ true
+    go : (eqb c x ≡ true) ⊎ (eqb c x ≡ false) → is_placed (set placed x true) c ≡ true
     go (inl q) = rw (eqb-true c x q) (marked_own placed x h)
     go (inr q) = marked_other placed x c (eqb-false c x q) ∙ t
 
 module _ (parents : ℕ → List ℕ) (n : ℕ) where
   -- numbers in which parents are lower are such an order
-  pub numbers_whole : (classes : List ℕ) → length classes ≡ max_classes → in_number_order parents n ≡ true → ((i : ℕ) → i < n → get_or classes i 0 ≡ i) → Whole parents n n classes
+  pub numbers_whole : (classes : List ℕ) → length classes ≡ n → in_number_order parents n ≡ true → ((i : ℕ) → i < n → get_or classes i 0 ≡ i) → Whole parents n classes
   unfolding in_number_order lower
   numbers_whole classes long e same =
       record {
-        long = long;
         ordered = record {
-          present = λ i h. rw (same i h) h;
+          present = λ i h. let k : i < n = omega (arith, long) in rw (same i k) k;
           after = λ i h p m.
-              let m' : Memᴰ p (parents i) = rw (same i h) at m in
-              let l = ltb-true p i (every_mem (λ q. ltb q i) (parents i) (every_mem (λ c. every (λ q. ltb q c) (parents c)) (upto n) e (below_upto n i h)) m') in
+              let k : i < n = omega (arith, long) in
+              let m' : Memᴰ p (parents i) = rw (same i k) at m in
+              let l = ltb-true p i (every_mem (λ q. ltb q i) (parents i) (every_mem (λ c. every (λ q. ltb q c) (parents c)) (upto n) e (below_upto n i k)) m') in
               (p, l, same p (omega (arith, l)));
         };
-        limit = omega arith;
-        all = λ c h. (c, h, same c h);
+        limit = omega (arith, long);
+        all = λ c h. (c, omega (arith, long), same c h);
       }
 
   -- where a class of an order is on a cycle, so is one that stands before it
-  pub whole_acyclic : {count : ℕ} {classes : List ℕ} → ((c : ℕ) → c < n → every (λ p. ltb p n) (parents c) ≡ true) → Whole parents n count classes → Acyclic parents n
-  whole_acyclic {count} {classes} closed w c h =
+  whole_acyclic : {classes : List ℕ} → ((c : ℕ) → c < n → every (λ p. ltb p n) (parents c) ≡ true) → Whole parents n classes → Acyclic parents n
+  whole_acyclic {classes} closed w c h =
       refuted (inherits parents n c c)
       (λ e. let (i, l, q) = w.all c h in descend (suc i) i c (omega arith) l q ((inherits_decides parents n closed c c h).0 e))
     where
-      descend : (steps i d : ℕ) → i < steps → i < count → get_or classes i 0 ≡ d → Inherits parents d d → ⊥
+      descend : (steps i d : ℕ) → i < steps → i < length classes → get_or classes i 0 ≡ d → Inherits parents d d → ⊥
       descend zero i d s l q v = absurd (omega arith)
       descend (suc steps) i d s l q (p, m, u) =
           let (j, k, r) = w.ordered.after i l p (rw q m) in
           descend steps j p (omega (arith, k)) (omega (arith, k)) r (cycle_parent u m)
 
+  pub order_acyclic : {A : Type 0} (classes : A → List ℕ) → ((c : ℕ) → c < n → every (λ p. ltb p n) (parents c) ≡ true) → (r : Option A)
+      → MatchOption r (Acyclic parents n → ⊥) (λ order. Whole parents n (classes order)) → is_some r ≡ true → Acyclic parents n
+  order_acyclic classes closed (Some order) w e = whole_acyclic closed w
+  order_acyclic classes closed None w e = absurd (false≢true e)
+
   -- nothing is placed
-  pub placing_none : (classes placed : List ℕ) → classes ≡ replicate max_classes 0 → placed ≡ replicate max_classes 0 → n ≤ max_classes → Placing parents n 0 classes placed
-  unfolding is_placed
-  placing_none classes placed e f limit =
+  pub placing_none : (placed : List Bool) → placed ≡ replicate max_classes false → n ≤ max_classes → Placing parents n [] placed
+  placing_none placed f limit =
       record {
-        long = (ap length e, ap length f);
+        long = ap length f;
         ordered = record { present = λ i h. absurd (omega arith); after = λ i h. absurd (omega arith) };
-        listed = λ c h t. absurd (false≢true (sym (ap (λ (x : ℕ). eqb x 1) (ap (λ (l : List ℕ). get_or l c 0) f ∙ get_or-replicate {A = ℕ} max_classes c 0 0 (omega arith))) ∙ t));
+        listed = λ c h t. absurd (false≢true (sym (ap (λ (l : List Bool). get_or l c false) f ∙ get_or-replicate {A = Bool} max_classes c false false (omega arith)) ∙ t));
         few = omega arith;
       }
 
   -- with a class that is not placed there are fewer than n, and marking it makes one more
-  pub count_below : {count : ℕ} {classes placed : List ℕ} → Placing parents n count classes placed → (x : ℕ) → x < n → is_placed placed x ≡ false → count < n
-  count_below {count} {classes} {placed} g x h t =
+  pub count_below : {classes : List ℕ} {placed : List Bool} → Placing parents n classes placed → (x : ℕ) → x < n → is_placed placed x ≡ false → length classes < n
+  count_below {classes} {placed} g x h t =
       let more = keep_fewer (is_placed placed) (λ c. true) (upto n) (λ c m e. refl) (below_upto n x h) refl t in
       omega (arith, more, g.few, keep_upto_length (λ c. true) n)
 
   -- one class more, whose parents are placed
-  module _ {count : ℕ} {classes placed : List ℕ} (g : Placing parents n count classes placed) (limit : n ≤ max_classes) (x : ℕ) (h : x < n)
+  module _ {classes : List ℕ} {placed : List Bool} (g : Placing parents n classes placed) (limit : n ≤ max_classes) (x : ℕ) (h : x < n)
       (t : is_placed placed x ≡ false) (ready : (p : ℕ) → Memᴰ p (parents x) → (p < n) × (is_placed placed p ≡ true)) where
-    room : count < length classes
-    room = omega (arith, count_below g x h t, g.long.0)
-
     long : x < length placed
-    long = omega (arith, h, g.long.1)
+    long = omega (arith, h, g.long)
 
-    before : (i : ℕ) → i < count → get_or (set classes count x) i 0 ≡ get_or classes i 0
-    before i l = get_or-set_other classes count i x 0 (λ e. omega (arith, e))
+    one_more : length (classes ++ x ∷ []) ≡ length classes + 1
+    one_more = length-append classes (x ∷ [])
 
-    own : get_or (set classes count x) count 0 ≡ x
-    own = get_or-set_same classes count x 0 room
+    before : (i : ℕ) → i < length classes → get_or (classes ++ x ∷ []) i 0 ≡ get_or classes i 0
+    before i l = get_or-append classes (x ∷ []) 0 i l
 
-    stands : (c : ℕ) → (i : ℕ) × (i < count) × (get_or classes i 0 ≡ c) → (i : ℕ) × (i < count) × (get_or (set classes count x) i 0 ≡ c)
+    own : get_or (classes ++ x ∷ []) (length classes) 0 ≡ x
+    own = get_or-append_seam classes x [] 0
+
+    stands : (c : ℕ) → (i : ℕ) × (i < length classes) × (get_or classes i 0 ≡ c) → (i : ℕ) × (i < length classes) × (get_or (classes ++ x ∷ []) i 0 ≡ c)
     stands c (i, l, q) = (i, l, before i l ∙ q)
 
-    pub placing_more : Placing parents n (count + 1) (set classes count x) (set placed x 1)
+    pub placing_more : Placing parents n (classes ++ x ∷ []) (set placed x true)
     placing_more =
         record {
-          long = (length-set classes count x ∙ g.long.0, length-set placed x 1 ∙ g.long.1);
-          ordered = record { present = λ i l. present i (test (ltb i count)) l; after = λ i l p m. after i (test (ltb i count)) l p m };
+          long = length-set placed x true ∙ g.long;
+          ordered = record { present = λ i l. present i (test (ltb i (length classes))) l; after = λ i l p m. after i (test (ltb i (length classes))) l p m };
           listed = λ c k e. found c k e (test (eqb c x));
           few =
-              let more = keep_fewer (is_placed placed) (is_placed (set placed x 1)) (upto n) (λ c m e. marked_still placed x c long e) (below_upto n x h) (marked_own placed x long) t in
-              omega (arith, more, g.few);
+              let more = keep_fewer (is_placed placed) (is_placed (set placed x true)) (upto n) (λ c m e. marked_still placed x c long e) (below_upto n x h) (marked_own placed x long) t in
+              omega (arith, more, g.few, one_more);
         }
       where
-        present : (i : ℕ) → (ltb i count ≡ true) ⊎ (ltb i count ≡ false) → i < count + 1 → get_or (set classes count x) i 0 < n
-        present i (inl q) l = rw (before i (ltb-true i count q)) (g.ordered.present i (ltb-true i count q))
-        present i (inr q) l = let e : i ≡ count = omega (arith, ltb-false i count q) in rw (e, own) h
+        present : (i : ℕ) → (ltb i (length classes) ≡ true) ⊎ (ltb i (length classes) ≡ false) → i < length (classes ++ x ∷ []) → get_or (classes ++ x ∷ []) i 0 < n
+        present i (inl q) l = rw (before i (ltb-true i (length classes) q)) (g.ordered.present i (ltb-true i (length classes) q))
+        present i (inr q) l = let e : i ≡ length classes = omega (arith, ltb-false i (length classes) q, one_more) in rw (e, own) h
 
-        after : (i : ℕ) → (ltb i count ≡ true) ⊎ (ltb i count ≡ false) → i < count + 1 → (p : ℕ) → Memᴰ p (parents (get_or (set classes count x) i 0))
-            → (j : ℕ) × (j < i) × (get_or (set classes count x) j 0 ≡ p)
+        after : (i : ℕ) → (ltb i (length classes) ≡ true) ⊎ (ltb i (length classes) ≡ false) → i < length (classes ++ x ∷ []) → (p : ℕ)
+            → Memᴰ p (parents (get_or (classes ++ x ∷ []) i 0)) → (j : ℕ) × (j < i) × (get_or (classes ++ x ∷ []) j 0 ≡ p)
         after i (inl q) l p m =
-            let less = ltb-true i count q in
+            let less = ltb-true i (length classes) q in
             let (j, k, r) = g.ordered.after i less p (rw (before i less) at m) in
             (j, k, before j (omega (arith, k)) ∙ r)
         after i (inr q) l p m =
-            let e : i ≡ count = omega (arith, ltb-false i count q) in
+            let e : i ≡ length classes = omega (arith, ltb-false i (length classes) q, one_more) in
             let m' : Memᴰ p (parents x) = rw (e, own) at m in
             let (k, r) = ready p m' in
             rw e (stands p (g.listed p k r))
 
-        found : (c : ℕ) → c < n → is_placed (set placed x 1) c ≡ true → (eqb c x ≡ true) ⊎ (eqb c x ≡ false)
-            → (i : ℕ) × (i < count + 1) × (get_or (set classes count x) i 0 ≡ c)
-        found c k e (inl q) = (count, omega arith, own ∙ sym (eqb-true c x q))
+        found : (c : ℕ) → c < n → is_placed (set placed x true) c ≡ true → (eqb c x ≡ true) ⊎ (eqb c x ≡ false)
+            → (i : ℕ) × (i < length (classes ++ x ∷ [])) × (get_or (classes ++ x ∷ []) i 0 ≡ c)
+        found c k e (inl q) = (length classes, omega (arith, one_more), own ∙ sym (eqb-true c x q))
         found c k e (inr q) =
             let (i, l, r) = stands c (g.listed c k (sym (marked_other placed x c (eqb-false c x q)) ∙ e)) in
-            (i, omega (arith, l), r)
+            (i, omega (arith, l, one_more), r)
 
   -- once all are placed the order is whole
-  pub placing_all : {count : ℕ} {classes placed : List ℕ} → Placing parents n count classes placed → ((c : ℕ) → c < n → is_placed placed c ≡ true)
-      → Whole parents n count classes
+  pub placing_all : {classes : List ℕ} {placed : List Bool} → Placing parents n classes placed → ((c : ℕ) → c < n → is_placed placed c ≡ true) → Whole parents n classes
   placing_all {placed = placed} g done =
-      record {
-        long = g.long.0;
-        ordered = g.ordered;
-        limit = omega (arith, g.few, keep_upto_length (is_placed placed) n);
-        all = λ c h. g.listed c h (done c h);
-      }
+      record { ordered = g.ordered; limit = omega (arith, g.few, keep_upto_length (is_placed placed) n); all = λ c h. g.listed c h (done c h) }

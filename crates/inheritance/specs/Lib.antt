@@ -1,4 +1,4 @@
+pub mod Found
 pub mod Order
 pub mod Rows
 pub mod Closure
-pub mod Cycle

@@ -1,20 +1,22 @@
--- Rows of classes as words of bits: the rows of all numbers of classes one behind the other, of two words each.
+-- Sets of classes as words of bits, and a row of sets for all numbers of classes.
 -- Assumes nothing.
-use Rattle.std.specs.Prelude.{ℕ, ◌*◌, ◌<◌, ◌≡◌, Bool, List, length}
+use Rattle.std.specs.Prelude.{ℕ, ◌<◌, ◌≡◌, Bool, List, [], length, get_or}
 use Rattle.rules.specs.Layout.{max_classes}
 use Rattle.rules.specs.Bits.{in_set}
+use Rattle.inheritance.specs.declared.class_set.ClassSet.{ClassSet}
+
+-- the set has class c
+abbrev pub has_class : ClassSet → ℕ → Bool
+has_class s c = in_set s.words 0 c
+
+abbrev pub no_class : ClassSet
+no_class = record { words = [] }
 
 -- row a has class c
-abbrev pub rows_have : List ℕ → ℕ → ℕ → Bool
-rows_have rows a c = in_set rows (2 * a) c
+abbrev pub rows_have : List ClassSet → ℕ → ℕ → Bool
+rows_have rows a c = has_class (get_or rows a no_class) c
 
 -- the rows of the classes below n say for which classes a test passes
-pub record RowsOf (f : ℕ → ℕ → Bool) (n : ℕ) (rows : List ℕ) : Type 0 where
-  pub long : length rows ≡ 256
-  pub told : (a c : ℕ) → a < n → c < max_classes → in_set rows (2 * a) c ≡ f a c
-
--- one row is put in the place of row a, and the others stay
-pub record RowPut (old : List ℕ) (a : ℕ) (row new : List ℕ) : Type 0 where
-  pub long : length new ≡ length old
-  pub own : (c : ℕ) → c < max_classes → in_set new (2 * a) c ≡ in_set row 0 c
-  pub others : (x : ℕ) → (x ≡ a → ⊥) → (c : ℕ) → c < max_classes → in_set new (2 * x) c ≡ in_set old (2 * x) c
+pub record RowsOf (f : ℕ → ℕ → Bool) (n : ℕ) (rows : List ClassSet) : Type 0 where
+  pub long : length rows ≡ max_classes
+  pub told : (a c : ℕ) → a < n → c < max_classes → rows_have rows a c ≡ f a c

@@ -2,44 +2,30 @@
 ghost use Rattle.std.specs.Prelude.{◌≡◌};
 ghost use Rattle.rules.specs.Layout.{class_count, lowest};
 ghost use Rattle.rules.specs.Cycles.{cycle_rule};
-ghost use Rattle.layout.specs.Listed.{Listed};
-ghost use Rattle.inheritance.specs.Cycle.{on_cycle_of};
+ghost use Rattle.inheritance.specs.Found.{found};
 
 use crate::closure::closure;
 use crate::order::class_order;
-use crate::rows::{has, row_at};
-use layout::bundle::Bundle;
-
-#[derive(Clone, Copy)]
-pub enum OnCycle {
-    At(usize),
-    None,
-}
+use layout::open::ListedBundle;
 
 // The first class that is among those that it inherits from.
-fn lowest_by_closure(bytes: &[u8], b: Bundle) -> OnCycle
-    requires { Listed bytes.now b }
-    ensures { on_cycle_of result ≡ lowest (cycle_rule bytes.now) (class_count bytes.now) }
+fn lowest_by_closure(bundle: &ListedBundle<'_>) -> Option<usize>
+    ensures { found result ≡ lowest (cycle_rule bundle.now.bytes.now) (class_count bundle.now.bytes.now) }
 {
-    let n = b.classes;
-    let rows = closure(bytes, b);
-    let mut c = 0;
-    while c < n {
-        if has(row_at(&rows, c), c) {
-            return OnCycle::At(c);
+    let rows = closure(bundle);
+    for c in 0..bundle.tables.classes {
+        if rows[c].has(c) {
+            return Some(c);
         }
-        c += 1;
     }
-    OnCycle::None
+    None
 }
 
-pub fn lowest_on_cycle(bytes: &[u8], b: Bundle) -> OnCycle
-    requires { Listed bytes.now b }
-    ensures { on_cycle_of result ≡ lowest (cycle_rule bytes.now) (class_count bytes.now) }
+pub fn lowest_on_cycle(bundle: &ListedBundle<'_>) -> Option<usize>
+    ensures { found result ≡ lowest (cycle_rule bundle.now.bytes.now) (class_count bundle.now.bytes.now) }
 {
-    let order = class_order(bytes, b);
-    if order.whole {
-        return OnCycle::None;
+    if class_order(bundle).is_some() {
+        return None;
     }
-    lowest_by_closure(bytes, b)
+    lowest_by_closure(bundle)
 }

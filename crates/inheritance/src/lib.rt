@@ -1,7 +1,7 @@
-// Inheritance as a graph of classes: an order of them with parents first, rows of classes as words of bits, and the lowest class on a cycle.
+// Inheritance as a graph of classes: an order of them with parents first, sets of classes as words of bits, and the lowest class on a cycle.
 #![tactic(auto)]
 
+pub mod class_set;
 mod closure;
 pub mod cycle;
 pub mod order;
-pub mod rows;

@@ -1,184 +1,122 @@
 // An order of the classes in which each stands after its parents; there is none exactly where inheritance has a cycle. Most bundles have their classes so by number.
 // Of another the classes are placed by a walk: from each class to a parent that is not placed yet, and so on; a class is placed once its parents are. The classes on
 // the way back are a stack, no longer than there are classes: one more, and a class is on it twice.
-ghost use Rattle.std.specs.Prelude.{◌≡◌, false, ℕ, ◌<◌, length, get_or};
-ghost use Rattle.rules.specs.Bounded.{first, every};
+ghost use Rattle.std.specs.Prelude.{◌≡◌, false, ℕ, ◌<◌, ◌≤◌, length, get_or, MatchOption};
 ghost use Rattle.rules.specs.Layout.{max_classes, parents_of};
-ghost use Rattle.layout.specs.Listed.{Listed};
-ghost use Rattle.inheritance.specs.Order.{lower, in_number_order, is_placed, waiting, waiting_of, Placing, Walked, Ordering};
+ghost use Rattle.inheritance.specs.Found.{found};
+ghost use Rattle.inheritance.specs.Order.{lower, in_number_order, is_placed, waiting, Acyclic, Placing, Whole, Walked};
 
+use arrayvec::ArrayVec;
 use layout::bundle::Bundle;
 use layout::bytes::byte_at;
-use layout::parents::{parent, parent_count};
+use layout::open::ListedBundle;
 
 const CLASSES: usize = Bundle::CLASSES;
 
-// The first classes of a list, and whether they are all.
-#[derive(Clone, Copy)]
-pub struct Order {
-    pub classes: [u8; CLASSES],
-    pub count: usize,
-    pub whole: bool,
-}
+// Classes one after the other.
+pub type ClassList = ArrayVec<u8, CLASSES>;
 
 // Whether all parents of class c have lower numbers. They rise, so the last one tells.
-fn parents_lower(bytes: &[u8], b: Bundle, c: usize) -> bool
-    requires listed { Listed bytes.now b }
-    requires c_lt_classes { c < b.classes }
-    ensures { result ≡ lower (parents_of bytes.now) c }
+fn parents_lower(bundle: &ListedBundle<'_>, c: usize) -> bool
+    requires { c < bundle.now.tables.classes }
+    ensures { result ≡ lower (parents_of bundle.now.bytes.now) c }
 {
-    let n = parent_count(bytes, b, c);
+    let n = bundle.parent_count(c);
     if n == 0 {
         return true;
     }
-    parent(bytes, b, c, n - 1) < c
+    bundle.parent(c, n - 1) < c
 }
 
 // Whether every class has a higher number than its parents.
-fn in_number_order(bytes: &[u8], b: Bundle) -> bool
-    requires { Listed bytes.now b }
-    ensures { result ≡ in_number_order (parents_of bytes.now) b.classes }
+fn in_number_order(bundle: &ListedBundle<'_>) -> bool
+    ensures { result ≡ in_number_order (parents_of bundle.now.bytes.now) bundle.now.tables.classes }
 {
-    let mut c = 0;
-    while c < b.classes {
-        if !parents_lower(bytes, b, c) {
+    for c in 0..bundle.tables.classes {
+        if !parents_lower(bundle, c) {
             return false;
         }
-        c += 1;
     }
     true
 }
 
-// The numbers below the limit on classes, rising.
-fn numbers() -> [u8; CLASSES]
-    ensures { (length result ≡ max_classes) × ((i : ℕ) → i < max_classes → get_or result i 0 ≡ i) }
+// The numbers of n classes, rising.
+fn numbers(n: usize) -> ClassList
+    requires { n ≤ max_classes }
+    ensures { (length result.items ≡ n) × ((i : ℕ) → i < n → get_or result.items i 0 ≡ i) }
 {
-    let mut list = [0u8; CLASSES];
-    let mut i = 0;
-    while i < CLASSES {
-        list[i] = i as u8;
-        i += 1;
+    let mut order = ArrayVec::new();
+    for c in 0..n {
+        order.push(c as u8);
     }
-    list
-}
-
-// What a class waits for: a parent that is not placed, or nothing.
-#[derive(Clone, Copy)]
-enum Waiting {
-    For(usize),
-    Nothing,
+    order
 }
 
 // The first parent of class c that is not placed.
-fn waiting_for(bytes: &[u8], b: Bundle, placed: &[u8; CLASSES], c: usize) -> Waiting
-    requires listed { Listed bytes.now b }
-    requires c_lt_classes { c < b.classes }
-    ensures { waiting_of result ≡ waiting (parents_of bytes.now) placed.now c }
+fn waiting_for(bundle: &ListedBundle<'_>, placed: &[bool; CLASSES], c: usize) -> Option<usize>
+    requires { c < bundle.now.tables.classes }
+    ensures { found result ≡ waiting (parents_of bundle.now.bytes.now) placed.now c }
 {
-    let n = parent_count(bytes, b, c);
-    let mut i = 0;
-    while i < n {
-        let p = parent(bytes, b, c, i);
-        if placed[p] != 1 {
-            return Waiting::For(p);
+    for i in 0..bundle.parent_count(c) {
+        let p = bundle.parent(c, i);
+        if !placed[p] {
+            return Some(p);
         }
-        i += 1;
     }
-    Waiting::Nothing
+    None
 }
 
-// How a walk ends: so many classes are placed now, or it has met a cycle.
-#[derive(Clone, Copy)]
-enum WalkEnd {
-    Placed(usize),
-    Cycle,
-}
-
-// Places class c, and before it what it waits for.
+// Places class c, and before it what it waits for; nothing where it meets a cycle.
 fn walk(
-    bytes: &[u8],
-    b: Bundle,
+    bundle: &ListedBundle<'_>,
     c: usize,
-    before: usize,
-    classes: &mut [u8; CLASSES],
-    placed: &mut [u8; CLASSES],
-    stack: &mut [u8; CLASSES],
-) -> WalkEnd
-    requires listed { Listed bytes.now b }
-    requires c_lt_classes { c < b.classes }
+    order: &mut ClassList,
+    placed: &mut [bool; CLASSES],
+) -> Option<()>
+    requires c_lt_classes { c < bundle.now.tables.classes }
     requires c_open { is_placed placed.old c ≡ false }
-    requires placing { Placing (parents_of bytes.now) b.classes before classes.old placed.old }
-    requires stack_len { length stack.old ≡ max_classes }
-    ensures walked { Walked (parents_of bytes.now) b.classes c placed.old result classes.new placed.new }
-    ensures stack_len_after { length stack.new ≡ max_classes }
+    requires placing { Placing (parents_of bundle.now.bytes.now) bundle.now.tables.classes order.old.items placed.old }
+    ensures { Walked (parents_of bundle.now.bytes.now) bundle.now.tables.classes c placed.old result order.new.items placed.new }
 {
-    let n = b.classes;
-    let mut count = before;
-    stack[0] = c as u8;
-    let mut depth = 1;
-    while 0 < depth {
-        let top = byte_at(stack, depth - 1);
-        if let Waiting::For(p) = waiting_for(bytes, b, placed, top) {
-            if depth == n {
-                return WalkEnd::Cycle;
+    let mut stack: ClassList = ArrayVec::new();
+    stack.push(c as u8);
+    // A `while`: the stack grows and shrinks, so no index counts the turns.
+    while !stack.is_empty() {
+        let top = byte_at(stack.as_slice(), stack.len() - 1);
+        if let Some(p) = waiting_for(bundle, placed, top) {
+            if stack.len() == bundle.tables.classes {
+                return None;
             }
-            stack[depth] = p as u8;
-            depth += 1;
+            stack.push(p as u8);
             continue;
         }
-        classes[count] = top as u8;
-        placed[top] = 1;
-        count += 1;
-        depth -= 1;
+        order.push(top as u8);
+        placed[top] = true;
+        stack.pop();
     }
-    WalkEnd::Placed(count)
+    Some(())
 }
 
 // The order that walks from each class make.
-fn walked_order(bytes: &[u8], b: Bundle) -> Order
-    requires { Listed bytes.now b }
-    ensures { Ordering (parents_of bytes.now) b.classes result }
+fn walked_order(bundle: &ListedBundle<'_>) -> Option<ClassList>
+    ensures { MatchOption result (Acyclic (parents_of bundle.now.bytes.now) bundle.now.tables.classes → ⊥) (λ order. Whole (parents_of bundle.now.bytes.now) bundle.now.tables.classes order.items) }
 {
-    let mut classes = [0u8; CLASSES];
-    let mut placed = [0u8; CLASSES];
-    let mut stack = [0u8; CLASSES];
-    let mut count = 0;
-    let mut c = 0;
-    while c < b.classes {
-        if placed[c] == 1 {
-            c += 1;
-            continue;
+    let mut order = ArrayVec::new();
+    let mut placed = [false; CLASSES];
+    for c in 0..bundle.tables.classes {
+        if !placed[c] {
+            walk(bundle, c, &mut order, &mut placed)?;
         }
-        let WalkEnd::Placed(k) = walk(bytes, b, c, count, &mut classes, &mut placed, &mut stack)
-        else {
-            return Order {
-                classes,
-                count,
-                whole: false,
-            };
-        };
-        count = k;
-        c += 1;
     }
-    Order {
-        classes,
-        count,
-        whole: true,
-    }
+    Some(order)
 }
 
 // The classes with parents first: by number where that will do. Which of several orders it is, no answer depends on.
-pub fn class_order(bytes: &[u8], b: Bundle) -> Order
-    requires { Listed bytes.now b }
-    ensures { Ordering (parents_of bytes.now) b.classes result }
+pub fn class_order(bundle: &ListedBundle<'_>) -> Option<ClassList>
+    ensures { MatchOption result (Acyclic (parents_of bundle.now.bytes.now) bundle.now.tables.classes → ⊥) (λ order. Whole (parents_of bundle.now.bytes.now) bundle.now.tables.classes order.items) }
 {
-    if in_number_order(bytes, b) {
-        let classes = numbers();
-        return Order {
-            classes,
-            count: b.classes,
-            whole: true,
-        };
+    if in_number_order(bundle) {
+        return Some(numbers(bundle.tables.classes));
     }
-    walked_order(bytes, b)
+    walked_order(bundle)
 }

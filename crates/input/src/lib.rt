@@ -17,6 +17,7 @@ pub fn read_full<R: Read>(reader: &mut R, space: &mut [u8]) -> io::Result<usize>
     ensures err { OnErr result (length space.new ≡ length space.old) }
 {
     let mut done = 0;
+    // A `while`: a reader gives as many bytes at a time as it likes, so the number of turns is not known before.
     while done < space.len() {
         let n = reader.read(&mut space[done..])?;
         if n == 0 {

@@ -4,3 +4,4 @@ pub mod Opened
 pub mod Instruction
 pub mod Bodies
 pub mod Arity
+pub mod Bundles

@@ -18,6 +18,7 @@ pub const METHOD_SECTION: usize = 4;
 pub const CODE_SECTION: usize = 5;
 
 // Where section k begins.
+#[tactic(auto, unfolding(rules::specs::Layout::offset))]
 pub fn section_at(bytes: &[u8], k: usize) -> usize
     requires in_bounds { 24 ≤ length bytes.now }
     requires k_bound { k < 6 }
@@ -27,6 +28,7 @@ pub fn section_at(bytes: &[u8], k: usize) -> usize
 }
 
 // How many bytes section k has.
+#[tactic(auto, unfolding(rules::specs::Layout::extent))]
 pub fn section_len(bytes: &[u8], k: usize) -> usize
     requires in_bounds { 24 ≤ length bytes.now }
     requires k_bound { k < 6 }

@@ -1,131 +1,14 @@
 // A reader for each field of a record of an opened bundle: what it gives is the field of the bundle's model.
 ghost use Rattle.std.specs.Prelude.{◌≡◌, true, ◌<◌, ◌≤◌, length, get_or};
 ghost use Rattle.rules.specs.Layout.{max_classes, places};
-ghost use Rattle.rules.specs.Model.{arg, model_of, operand_rule};
+ghost use Rattle.rules.specs.Model.{arg, operand_rule};
 ghost use Rattle.layout.specs.Instruction.{instr};
 ghost use Rattle.layout.specs.Bodies.{BodySpan};
-ghost use Rattle.layout.specs.Opened.{Opened};
+ghost use Rattle.layout.specs.Bundles.{model};
 
-use crate::bundle::Bundle;
 use crate::bytes::byte_at;
 use crate::instruction::{Instruction, decoded};
-use crate::record;
-use crate::record::{
-    body_length, body_offset, declared_tuple_at, kind, list_offset, sig_tuple_at,
-    specialiser_tuple_at,
-};
-
-// Whether class c has instances of its own.
-pub fn is_concrete(bytes: &[u8], b: Bundle, c: usize) -> bool
-    requires opened { Opened bytes.now b }
-    requires c_lt_classes { c < b.classes }
-    ensures { result ≡ (model_of bytes.now).concrete c }
-{
-    kind(bytes, b, c) == 1
-}
-
-// How many parents class c has.
-pub fn parent_count(bytes: &[u8], b: Bundle, c: usize) -> usize
-    requires opened { Opened bytes.now b }
-    requires c_lt_classes { c < b.classes }
-    ensures { (result ≡ length ((model_of bytes.now).parents c)) × (result ≤ max_classes) }
-{
-    record::parent_count(bytes, b, c)
-}
-
-// Parent i of class c.
-pub fn parent(bytes: &[u8], b: Bundle, c: usize, i: usize) -> usize
-    requires opened { Opened bytes.now b }
-    requires c_lt_classes { c < b.classes }
-    requires i_in_bounds { i < length ((model_of bytes.now).parents c) }
-    ensures { (result ≡ get_or ((model_of bytes.now).parents c) i 0) × (result < c) }
-{
-    byte_at(bytes, b.parent_at + list_offset(bytes, b, c) + i)
-}
-
-// How many arguments function f has.
-pub fn arity(bytes: &[u8], b: Bundle, f: usize) -> usize
-    requires opened { Opened bytes.now b }
-    requires f_lt_functions { f < b.functions }
-    ensures { (result ≡ (model_of bytes.now).arity f) × (result ≤ places) }
-{
-    record::arity(bytes, b, f)
-}
-
-// The function of signature s.
-pub fn sig_function(bytes: &[u8], b: Bundle, s: usize) -> usize
-    requires opened { Opened bytes.now b }
-    requires s_lt_signatures { s < b.signatures }
-    ensures { (result ≡ (model_of bytes.now).sig_function s) × (result < b.functions) }
-{
-    record::sig_function(bytes, b, s)
-}
-
-// The argument class of signature s at a place, 0 where the place is unused.
-pub fn sig_arg(bytes: &[u8], b: Bundle, s: usize, place: usize) -> usize
-    requires opened { Opened bytes.now b }
-    requires s_lt_signatures { s < b.signatures }
-    requires place_lt_places { place < places }
-    ensures { (result ≡ get_or ((model_of bytes.now).sig_args s) place 0) × (result < b.classes) }
-{
-    byte_at(bytes, sig_tuple_at(bytes, b, s) + place)
-}
-
-// The result class of signature s.
-pub fn sig_result(bytes: &[u8], b: Bundle, s: usize) -> usize
-    requires opened { Opened bytes.now b }
-    requires s_lt_signatures { s < b.signatures }
-    ensures { (result ≡ (model_of bytes.now).sig_result s) × (result < b.classes) }
-{
-    record::sig_result(bytes, b, s)
-}
-
-// The function of method m.
-pub fn function(bytes: &[u8], b: Bundle, m: usize) -> usize
-    requires opened { Opened bytes.now b }
-    requires m_lt_methods { m < b.methods }
-    ensures { (result ≡ (model_of bytes.now).function m) × (result < b.functions) }
-{
-    record::function(bytes, b, m)
-}
-
-// The specialiser of method m at a place, 0 where the place is unused.
-pub fn specialiser(bytes: &[u8], b: Bundle, m: usize, place: usize) -> usize
-    requires opened { Opened bytes.now b }
-    requires m_lt_methods { m < b.methods }
-    requires place_lt_places { place < places }
-    ensures { (result ≡ get_or ((model_of bytes.now).specialisers m) place 0) × (result < b.classes) }
-{
-    byte_at(bytes, specialiser_tuple_at(bytes, b, m) + place)
-}
-
-// The declared class of method m at a place, 0 where the place is unused.
-pub fn declared(bytes: &[u8], b: Bundle, m: usize, place: usize) -> usize
-    requires opened { Opened bytes.now b }
-    requires m_lt_methods { m < b.methods }
-    requires place_lt_places { place < places }
-    ensures { (result ≡ get_or ((model_of bytes.now).declared m) place 0) × (result < b.classes) }
-{
-    byte_at(bytes, declared_tuple_at(bytes, b, m) + place)
-}
-
-// The result class of method m.
-pub fn result(bytes: &[u8], b: Bundle, m: usize) -> usize
-    requires opened { Opened bytes.now b }
-    requires m_lt_methods { m < b.methods }
-    ensures { (result ≡ (model_of bytes.now).result m) × (result < b.classes) }
-{
-    record::result(bytes, b, m)
-}
-
-// How many instructions the body of method m has.
-pub fn size(bytes: &[u8], b: Bundle, m: usize) -> usize
-    requires opened { Opened bytes.now b }
-    requires m_lt_methods { m < b.methods }
-    ensures { (result ≡ length ((model_of bytes.now).body m)) × (1 ≤ result) × (result ≤ 64) }
-{
-    body_length(bytes, b, m) / 2
-}
+use crate::open::{OpenBundle, Records};
 
 // A part of the bundle: where it begins, and how many bytes it has.
 #[derive(Clone, Copy)]
@@ -134,25 +17,138 @@ pub struct Span {
     pub len: usize,
 }
 
-// Where the body of method m lies.
-pub fn body_span(bytes: &[u8], b: Bundle, m: usize) -> Span
-    requires opened { Opened bytes.now b }
-    requires m_lt_methods { m < b.methods }
-    ensures { BodySpan bytes.now m result }
-{
-    let at = b.code_at + body_offset(bytes, b, m);
-    let len = body_length(bytes, b, m);
-    Span { at, len }
-}
+impl OpenBundle<'_> {
+    // The same bundle, of which it is only said that its records can be read.
+    pub fn records(&self) -> Records<'_>
+        ensures { (result.bytes ≡ self.now.bytes) × (result.tables ≡ self.now.tables) }
+    {
+        Records {
+            bytes: self.bytes,
+            tables: self.tables,
+        }
+    }
 
-// Instruction i of method m.
-pub fn instruction(bytes: &[u8], b: Bundle, m: usize, i: usize) -> Instruction
-    requires opened { Opened bytes.now b }
-    requires m_lt_methods { m < b.methods }
-    requires i_in_bounds { i < length ((model_of bytes.now).body m) }
-    ensures result_value { instr result ≡ get_or ((model_of bytes.now).body m) i (arg 0) }
-    ensures result_value_2 { let M = model_of bytes.now in operand_rule M (M.arity (M.function m)) (instr result) ≡ true }
-{
-    let at = b.code_at + body_offset(bytes, b, m) + 2 * i;
-    decoded(byte_at(bytes, at), byte_at(bytes, at + 1))
+    // Whether class c has instances of its own.
+    pub fn is_concrete(&self, c: usize) -> bool
+        requires { c < self.now.tables.classes }
+        ensures { result ≡ (model self.now).concrete c }
+    {
+        self.records().kind(c) == 1
+    }
+
+    // How many parents class c has.
+    pub fn parent_count(&self, c: usize) -> usize
+        requires { c < self.now.tables.classes }
+        ensures { (result ≡ length ((model self.now).parents c)) × (result ≤ max_classes) }
+    {
+        self.records().parent_count(c)
+    }
+
+    // Parent i of class c.
+    pub fn parent(&self, c: usize, i: usize) -> usize
+        requires c_lt_classes { c < self.now.tables.classes }
+        requires i_in_bounds { i < length ((model self.now).parents c) }
+        ensures { (result ≡ get_or ((model self.now).parents c) i 0) × (result < c) }
+    {
+        byte_at(
+            self.bytes,
+            self.tables.parent_at + self.records().list_offset(c) + i,
+        )
+    }
+
+    // How many arguments function f has.
+    pub fn arity(&self, f: usize) -> usize
+        requires { f < self.now.tables.functions }
+        ensures { (result ≡ (model self.now).arity f) × (result ≤ places) }
+    {
+        self.records().arity(f)
+    }
+
+    // The function of signature s.
+    pub fn sig_function(&self, s: usize) -> usize
+        requires { s < self.now.tables.signatures }
+        ensures { (result ≡ (model self.now).sig_function s) × (result < self.now.tables.functions) }
+    {
+        self.records().sig_function(s)
+    }
+
+    // The argument class of signature s at a place, 0 where the place is unused.
+    pub fn sig_arg(&self, s: usize, place: usize) -> usize
+        requires s_lt_signatures { s < self.now.tables.signatures }
+        requires place_lt_places { place < places }
+        ensures { (result ≡ get_or ((model self.now).sig_args s) place 0) × (result < self.now.tables.classes) }
+    {
+        byte_at(self.bytes, self.records().sig_tuple_at(s) + place)
+    }
+
+    // The result class of signature s.
+    pub fn sig_result(&self, s: usize) -> usize
+        requires { s < self.now.tables.signatures }
+        ensures { (result ≡ (model self.now).sig_result s) × (result < self.now.tables.classes) }
+    {
+        self.records().sig_result(s)
+    }
+
+    // The function of method m.
+    pub fn function(&self, m: usize) -> usize
+        requires { m < self.now.tables.methods }
+        ensures { (result ≡ (model self.now).function m) × (result < self.now.tables.functions) }
+    {
+        self.records().function(m)
+    }
+
+    // The specialiser of method m at a place, 0 where the place is unused.
+    pub fn specialiser(&self, m: usize, place: usize) -> usize
+        requires m_lt_methods { m < self.now.tables.methods }
+        requires place_lt_places { place < places }
+        ensures { (result ≡ get_or ((model self.now).specialisers m) place 0) × (result < self.now.tables.classes) }
+    {
+        byte_at(self.bytes, self.records().specialiser_tuple_at(m) + place)
+    }
+
+    // The declared class of method m at a place, 0 where the place is unused.
+    pub fn declared(&self, m: usize, place: usize) -> usize
+        requires m_lt_methods { m < self.now.tables.methods }
+        requires place_lt_places { place < places }
+        ensures { (result ≡ get_or ((model self.now).declared m) place 0) × (result < self.now.tables.classes) }
+    {
+        byte_at(self.bytes, self.records().declared_tuple_at(m) + place)
+    }
+
+    // The result class of method m.
+    pub fn result(&self, m: usize) -> usize
+        requires { m < self.now.tables.methods }
+        ensures { (result ≡ (model self.now).result m) × (result < self.now.tables.classes) }
+    {
+        self.records().result(m)
+    }
+
+    // How many instructions the body of method m has.
+    pub fn size(&self, m: usize) -> usize
+        requires { m < self.now.tables.methods }
+        ensures { (result ≡ length ((model self.now).body m)) × (1 ≤ result) × (result ≤ 64) }
+    {
+        self.records().body_length(m) / 2
+    }
+
+    // Where the body of method m lies.
+    pub fn body_span(&self, m: usize) -> Span
+        requires { m < self.now.tables.methods }
+        ensures { BodySpan self.now.bytes.now m result }
+    {
+        let at = self.tables.code_at + self.records().body_offset(m);
+        let len = self.records().body_length(m);
+        Span { at, len }
+    }
+
+    // Instruction i of method m.
+    pub fn instruction(&self, m: usize, i: usize) -> Instruction
+        requires m_lt_methods { m < self.now.tables.methods }
+        requires i_in_bounds { i < length ((model self.now).body m) }
+        ensures result_value { instr result ≡ get_or ((model self.now).body m) i (arg 0) }
+        ensures result_value_2 { let M = model self.now in operand_rule M (M.arity (M.function m)) (instr result) ≡ true }
+    {
+        let at = self.tables.code_at + self.records().body_offset(m) + 2 * i;
+        decoded(byte_at(self.bytes, at), byte_at(self.bytes, at + 1))
+    }
 }

@@ -15,6 +15,7 @@ pub enum Instruction {
 }
 
 // The instruction of these two bytes. Number 9 refuses every other operation, and what stands for it here, and a RESEND whose operand is not 0.
+#[tactic(auto, unfolding(rules::specs::Model::decode, crate::specs::Instruction::instr))]
 pub fn decoded(operation: usize, operand: usize) -> Instruction
     ensures { instr result ≡ decode operation operand }
 {

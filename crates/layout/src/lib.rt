@@ -6,6 +6,7 @@ pub mod bytes;
 pub mod directory;
 pub mod field;
 pub mod instruction;
+pub mod open;
 pub mod parents;
 pub mod record;
 pub mod tuple;

@@ -1,28 +1,38 @@
 // The parents of a class, once every class keeps its own rule.
 ghost use Rattle.std.specs.Prelude.{◌≡◌, ◌<◌, ◌≤◌, length, get_or};
 ghost use Rattle.rules.specs.Layout.{max_classes, parents_of};
-ghost use Rattle.layout.specs.Listed.{Listed};
 
-use crate::bundle::Bundle;
 use crate::bytes::byte_at;
-use crate::record;
-use crate::record::list_offset;
+use crate::open::{ListedBundle, Records};
 
-// How many parents class c has.
-pub fn parent_count(bytes: &[u8], b: Bundle, c: usize) -> usize
-    requires listed { Listed bytes.now b }
-    requires c_lt_classes { c < b.classes }
-    ensures { (result ≡ length (parents_of bytes.now c)) × (result ≤ max_classes) }
-{
-    record::parent_count(bytes, b, c)
-}
+impl ListedBundle<'_> {
+    // How many parents class c has.
+    pub fn parent_count(&self, c: usize) -> usize
+        requires { c < self.now.tables.classes }
+        ensures { (result ≡ length (parents_of self.now.bytes.now c)) × (result ≤ max_classes) }
+    {
+        self.records().parent_count(c)
+    }
 
-// Parent i of class c.
-pub fn parent(bytes: &[u8], b: Bundle, c: usize, i: usize) -> usize
-    requires listed { Listed bytes.now b }
-    requires c_lt_classes { c < b.classes }
-    requires i_in_bounds { i < length (parents_of bytes.now c) }
-    ensures { (result ≡ get_or (parents_of bytes.now c) i 0) × (result < b.classes) }
-{
-    byte_at(bytes, b.parent_at + list_offset(bytes, b, c) + i)
+    // Parent i of class c.
+    pub fn parent(&self, c: usize, i: usize) -> usize
+        requires c_lt_classes { c < self.now.tables.classes }
+        requires i_in_bounds { i < length (parents_of self.now.bytes.now c) }
+        ensures { (result ≡ get_or (parents_of self.now.bytes.now c) i 0) × (result < self.now.tables.classes) }
+    {
+        byte_at(
+            self.bytes,
+            self.tables.parent_at + self.records().list_offset(c) + i,
+        )
+    }
+
+    // The same bundle, of which it is only said that its records can be read.
+    pub fn records(&self) -> Records<'_>
+        ensures { (result.bytes ≡ self.now.bytes) × (result.tables ≡ self.now.tables) }
+    {
+        Records {
+            bytes: self.bytes,
+            tables: self.tables,
+        }
+    }
 }

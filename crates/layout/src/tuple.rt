@@ -2,43 +2,40 @@
 ghost use Rattle.std.specs.Prelude.{◌≡◌, ◌+◌, ◌<◌, eqb, length};
 ghost use Rattle.rules.specs.Bounded.{matching};
 ghost use Rattle.rules.specs.Layout.{sig_tuple_at, specialiser_tuple_at, declared_tuple_at};
-ghost use Rattle.rules.specs.Model.{model_of};
-ghost use Rattle.layout.specs.Opened.{Opened};
 ghost use Rattle.layout.specs.Arity.{OfArity};
+ghost use Rattle.layout.specs.Bundles.{model};
 
-use crate::bundle::Bundle;
 use crate::bytes::part;
-use crate::record::{declared_tuple_at, sig_tuple_at, specialiser_tuple_at};
+use crate::open::OpenBundle;
 
-// The specialisers of method m, of a function with n arguments.
-pub fn specialisers<'a>(bytes: &'a [u8], b: Bundle, n: usize, m: usize) -> &'a [u8]
-    requires opened { Opened bytes.now b }
-    requires of_arity { OfArity (model_of bytes.now) n m }
-    ensures ref_ptr_value { result.ref_ptr ≡ (bytes.entry.ref_ptr.0, specialiser_tuple_at bytes.now m + bytes.entry.ref_ptr.1) }
-    ensures result_value { result.now ≡ (model_of bytes.now).specialisers m }
-{
-    part(bytes, specialiser_tuple_at(bytes, b, m), n)
-}
+impl<'a> OpenBundle<'a> {
+    // The specialisers of method m, of a function with n arguments.
+    pub fn specialisers(&self, n: usize, m: usize) -> &'a [u8]
+        requires { OfArity (model self.now) n m }
+        ensures ref_ptr_value { result.ref_ptr ≡ (self.now.bytes.ref_ptr.0, specialiser_tuple_at self.now.bytes.now m + self.now.bytes.ref_ptr.1) }
+        ensures result_value { result.now ≡ (model self.now).specialisers m }
+    {
+        part(self.bytes, self.records().specialiser_tuple_at(m), n)
+    }
 
-// The declared classes of method m, of a function with n arguments.
-pub fn declared_classes<'a>(bytes: &'a [u8], b: Bundle, n: usize, m: usize) -> &'a [u8]
-    requires opened { Opened bytes.now b }
-    requires of_arity { OfArity (model_of bytes.now) n m }
-    ensures ref_ptr_value { result.ref_ptr ≡ (bytes.entry.ref_ptr.0, declared_tuple_at bytes.now m + bytes.entry.ref_ptr.1) }
-    ensures result_value { result.now ≡ (model_of bytes.now).declared m }
-{
-    part(bytes, declared_tuple_at(bytes, b, m), n)
-}
+    // The declared classes of method m, of a function with n arguments.
+    pub fn declared_classes(&self, n: usize, m: usize) -> &'a [u8]
+        requires { OfArity (model self.now) n m }
+        ensures ref_ptr_value { result.ref_ptr ≡ (self.now.bytes.ref_ptr.0, declared_tuple_at self.now.bytes.now m + self.now.bytes.ref_ptr.1) }
+        ensures result_value { result.now ≡ (model self.now).declared m }
+    {
+        part(self.bytes, self.records().declared_tuple_at(m), n)
+    }
 
-// The argument classes of signature s, of a function with n arguments.
-pub fn signature_classes<'a>(bytes: &'a [u8], b: Bundle, n: usize, s: usize) -> &'a [u8]
-    requires opened { Opened bytes.now b }
-    requires s_lt_signatures { s < b.signatures }
-    requires n_value { n ≡ (model_of bytes.now).arity ((model_of bytes.now).sig_function s) }
-    ensures ref_ptr_value { result.ref_ptr ≡ (bytes.entry.ref_ptr.0, sig_tuple_at bytes.now s + bytes.entry.ref_ptr.1) }
-    ensures result_value { result.now ≡ (model_of bytes.now).sig_args s }
-{
-    part(bytes, sig_tuple_at(bytes, b, s), n)
+    // The argument classes of signature s, of a function with n arguments.
+    pub fn signature_classes(&self, n: usize, s: usize) -> &'a [u8]
+        requires s_lt_signatures { s < self.now.tables.signatures }
+        requires n_value { n ≡ (model self.now).arity ((model self.now).sig_function s) }
+        ensures ref_ptr_value { result.ref_ptr ≡ (self.now.bytes.ref_ptr.0, sig_tuple_at self.now.bytes.now s + self.now.bytes.ref_ptr.1) }
+        ensures result_value { result.now ≡ (model self.now).sig_args s }
+    {
+        part(self.bytes, self.records().sig_tuple_at(s), n)
+    }
 }
 
 // Whether each class of the one tuple is the same as the class at its place in the other.
@@ -46,12 +43,5 @@ pub fn each_same(classes: &[u8], others: &[u8]) -> bool
     requires { length classes.now ≡ length others.now }
     ensures { result ≡ matching eqb classes.now others.now }
 {
-    let mut i = 0;
-    while i < classes.len() {
-        if classes[i] != others[i] {
-            return false;
-        }
-        i += 1;
-    }
-    true
+    classes == others
 }

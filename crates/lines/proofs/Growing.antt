@@ -45,16 +45,6 @@ grown_wider l h a = record { onward = a.onward; bound = omega (arith, h, a.bound
 pub grown_as : {k at r : ℕ} {old new p q : List ℕ} → p ≡ q → Appended k old at p new r → Appended k old at q new r
 grown_as {k} {at} {r} {old} {new} e a = subst (λ (x : List ℕ). Appended k old at x new r) e a
 
--- one byte more of a word
-pub grown_copied : (old text word : List ℕ) (at i : ℕ) → at + i < length text → i < length word → Appended i old at (take i word) text (at + i)
-    → Appended (i + 1) old at (take (i + 1) word) (set text (at + i) (get_or word i 0)) (at + (i + 1))
-grown_copied old text word at i h l a =
-    let e : at + i + 1 ≡ at + (i + 1) = omega arith in
-    let piece : take i word ++ (get_or word i 0 ∷ []) ≡ take (i + 1) word = rw (add-one i) (sym (take-suc word i 0 l)) in
-    grown_as piece
-    (subst (λ (r : ℕ). Appended (i + 1) old at (take i word ++ (get_or word i 0 ∷ [])) (set text (at + i) (get_or word i 0)) r) e
-    (grown_both a (grown_byte text (at + i) (get_or word i 0) h)))
-
 -- the classes of two lists, one after the other
 pub classes_both : (xs ys : List ℕ) → classes (xs ++ ys) ≡ classes xs ++ classes ys
 unfolding classes

@@ -1,3 +1,2 @@
 pub mod Growing
-pub mod Recorded
 pub mod Sends

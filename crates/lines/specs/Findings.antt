@@ -1,12 +1,10 @@
 -- What the functions that write the line of a finding ask and promise.
 -- Assumes nothing.
-use Rattle.std.specs.Prelude.{ℕ, ◌<◌, List}
+use Rattle.std.specs.Prelude.{ℕ, ◌<◌, List, Result, Ok, Err}
 use Rattle.rules.specs.Model.{Model}
 use Rattle.answers.specs.declared.opening.LayoutFinding.{LayoutFinding}
 use Rattle.answers.specs.declared.finding.Finding as finding-type
 use Rattle.answers.specs.declared.finding.Finding.TheVariants as finding
-use Rattle.answers.specs.declared.finding.Verdict as verdict-type
-use Rattle.answers.specs.declared.finding.Verdict.TheVariants as verdict
 use Rattle.answers.specs.Opening.{layout_number, layout_values}
 use Rattle.lines.specs.Text as text
 
@@ -17,12 +15,12 @@ NamedBy functions finding.Scratch = Unit {0}
 NamedBy functions (finding.Coverage c) = c.send.function < functions
 NamedBy functions (finding.Body x) = Unit {0}
 
-abbrev pub Named : ℕ → verdict-type.Verdict → Type 0
-Named functions verdict.Accepted = Unit {0}
-Named functions (verdict.Refused f) = NamedBy functions f
+abbrev pub Named : ℕ → Result (Unit {0}) finding-type.Finding → Type 0
+Named functions (Ok x) = Unit {0}
+Named functions (Err f) = NamedBy functions f
 
-abbrev pub refused_with : finding-type.Finding → verdict-type.Verdict
-refused_with f = verdict.Refused f
+abbrev pub refused_with : finding-type.Finding → Result (Unit {0}) finding-type.Finding
+refused_with f = Err f
 
 -- the line of a layout refusal, which is the same in every model
 abbrev pub layout_line : Model → LayoutFinding → List ℕ

@@ -1,6 +1,7 @@
 // Text that grows at its end: each function writes a piece at a place and answers the place after it. The room that a piece may take is a fixed number, so
 // that callers need not know how many digits their numbers have.
-ghost use Rattle.std.specs.Prelude.{◌≡◌, [], ◌∷◌, ◌++◌, ◌+◌, ◌^◌, ◌<◌, ◌≤◌, length, take};
+// The text and the place are two parameters: of a struct that holds both, each function would have to promise as well that it still holds the same text.
+ghost use Rattle.std.specs.Prelude.{◌≡◌, [], ◌∷◌, ◌++◌, ◌+◌, ◌^◌, ◌<◌, ◌≤◌, length};
 ghost use Rattle.rules.specs.Decimal.{digits, decimal};
 ghost use Rattle.lines.specs.Text.{classes};
 ghost use Rattle.rules.specs.Layout.{places};
@@ -15,12 +16,9 @@ pub(crate) fn put_word(text: &mut [u8], at: usize, word: &[u8]) -> usize
     requires at_in_bounds { at + 12 ≤ length text.old }
     ensures { Appended 12 text.old at word.now text.new result }
 {
-    let mut i = 0;
-    while i < word.len() {
-        text[at + i] = word[i];
-        i += 1;
-    }
-    at + i
+    let end = at + word.len();
+    text[at..end].copy_from_slice(word);
+    end
 }
 
 // The digit of a number below 10.
@@ -28,7 +26,7 @@ fn digit(n: usize) -> u8
     requires { n < 10 }
     ensures { result ≡ 48 + n }
 {
-    48 + n as u8
+    b'0' + n as u8
 }
 
 // Writes a number of at most so many digits in decimal, the first digit first.
@@ -65,18 +63,15 @@ fn put_class(text: &mut [u8], at: usize, class: usize) -> usize
     put_field(text, at, b" ", class)
 }
 
-// Writes the first n classes of a send.
-pub(crate) fn put_classes(text: &mut [u8], at: usize, n: usize, args: &[usize]) -> usize
-    requires n_le_places { n ≤ places }
-    requires n_in_bounds { n ≤ length args.now }
+// Writes the classes of a send.
+pub(crate) fn put_classes(text: &mut [u8], at: usize, args: &[usize]) -> usize
+    requires args_len_le_places { length args.now ≤ places }
     requires classes_room_in_bounds { at + classes_room ≤ length text.old }
-    ensures { Appended classes_room text.old at (classes (take n args.now)) text.new result }
+    ensures { Appended classes_room text.old at (classes args.now) text.new result }
 {
     let mut end = at;
-    let mut i = 0;
-    while i < n {
-        end = put_class(text, end, args[i]);
-        i += 1;
+    for class in args {
+        end = put_class(text, end, *class);
     }
     end
 }

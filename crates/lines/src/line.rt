@@ -1,7 +1,8 @@
 // The lines of the listing.
-ghost use Rattle.std.specs.Prelude.{◌≡◌, [], ◌∷◌, ◌++◌, ◌+◌, ◌<◌, ◌≤◌, length, take};
-ghost use Rattle.rules.specs.Model.{Model, model_of};
-ghost use Rattle.layout.specs.Opened.{Opened};
+ghost use Rattle.std.specs.Prelude.{[], ◌∷◌, ◌++◌, ◌+◌, ◌<◌, ◌≤◌, length, take};
+ghost use Rattle.rules.specs.Model.{Model};
+ghost use Rattle.layout.specs.Bundles.{model};
+ghost use Rattle.answers.specs.Numbers.{code_of};
 ghost use Rattle.answers.specs.Send.{tuple_of};
 ghost use Rattle.rules.specs.Layout.{places};
 ghost use Rattle.answers.specs.Opening.{layout_values};
@@ -14,18 +15,12 @@ ghost use Rattle.lines.specs.Findings.{NamedBy, Named, layout_line, refused_with
 
 use crate::append::{put_classes, put_field, put_word};
 use answers::failure::{Failure, NotFound};
-use answers::finding::{BodyFinding, CoverageFinding, Finding, Verdict};
-use answers::number::{BAD_CLASS, SHORT_SCRATCH};
+use answers::finding::{BodyFinding, CoverageFinding, Finding};
+use answers::number::Number;
 use answers::opening::LayoutFinding;
 use answers::send::Send;
 use layout::bundle::Bundle;
-use layout::field::arity;
-
-fn wide(x: u8) -> usize
-    ensures { result ≡ x }
-{
-    x as usize
-}
+use layout::open::OpenBundle;
 
 // Writes the line of counts.
 pub fn counts_line(text: &mut [u8], b: Bundle) -> usize
@@ -39,15 +34,23 @@ pub fn counts_line(text: &mut [u8], b: Bundle) -> usize
     put_word(text, end, b"\n")
 }
 
-// Writes the record that a layout refusal names: from 4 on there is one.
+// Writes the number of a refusal.
+fn put_number(text: &mut [u8], at: usize, number: Number) -> usize
+    requires { at + 32 ≤ length text.old }
+    ensures { Appended 32 text.old at (field "refused " (code_of number)) text.new result }
+{
+    put_field(text, at, b"refused ", usize::from(number.code()))
+}
+
+// Writes the record that a layout refusal names, where it names one.
 fn put_record(text: &mut [u8], at: usize, found: LayoutFinding) -> usize
     requires { at + 32 ≤ length text.old }
     ensures { (M : Model) → Appended 32 text.old at (finding M (layout_values found)) text.new result }
 {
-    if found.number() < BAD_CLASS {
-        return at;
+    match found {
+        LayoutFinding::Record(_, k) => put_field(text, at, b" record ", k),
+        LayoutFinding::Length | LayoutFinding::Directory | LayoutFinding::Counts => at,
     }
-    put_field(text, at, b" record ", found.record())
 }
 
 // Writes the line of a layout refusal.
@@ -55,7 +58,7 @@ pub fn layout_line(text: &mut [u8], at: usize, found: LayoutFinding) -> usize
     requires { at + 76 ≤ length text.old }
     ensures { (M : Model) → Appended 76 text.old at (layout_line M found) text.new result }
 {
-    let p = put_field(text, at, b"refused ", wide(found.number()));
+    let p = put_number(text, at, found.number());
     let end = put_record(text, p, found);
     put_word(text, end, b"\n")
 }
@@ -73,21 +76,21 @@ pub fn number_line(text: &mut [u8], at: usize, number: usize) -> usize
 fn put_send(
     text: &mut [u8],
     at: usize,
-    refusal: usize,
+    number: Number,
     signature: usize,
     n: usize,
     send: Send,
 ) -> usize
     requires n_le_places { n ≤ places }
     requires send_room_in_bounds { at + send_room ≤ length text.old }
-    ensures { Appended send_room text.old at (field "refused " refusal ++ field " signature " signature ++ field " send " send.function ++ classes (take n (tuple_of send))) text.new result }
+    ensures { Appended send_room text.old at (field "refused " (code_of number) ++ field " signature " signature ++ field " send " send.function ++ classes (take n (tuple_of send))) text.new result }
 {
     let tuple = send.tuple;
     let args = [tuple.a0, tuple.a1, tuple.a2];
-    let p = put_field(text, at, b"refused ", refusal);
+    let p = put_number(text, at, number);
     let q = put_field(text, p, b" signature ", signature);
     let end = put_field(text, q, b" send ", send.function);
-    put_classes(text, end, n, &args)
+    put_classes(text, end, &args[..n])
 }
 
 // Writes the end of a coverage line that names one method.
@@ -134,60 +137,62 @@ fn put_failure(text: &mut [u8], at: usize, failure: Failure) -> usize
 
 // Writes the line of a coverage finding of the bundle.
 fn coverage_line(
-    bundle: &[u8],
-    b: Bundle,
+    bundle: &OpenBundle<'_>,
     text: &mut [u8],
     at: usize,
     found: CoverageFinding,
 ) -> usize
-    requires opened { Opened bundle.now b }
-    requires function_lt_functions { found.send.function < b.functions }
+    requires function_lt_functions { found.send.function < bundle.now.tables.functions }
     requires finding_room_in_bounds { at + finding_room ≤ length text.old }
-    ensures { Appended finding_room text.old at (verdict_line (model_of bundle.now) (coverage_said found)) text.new result }
+    ensures { Appended finding_room text.old at (verdict_line (model bundle.now) (coverage_said found)) text.new result }
 {
     let send = found.send;
     let failure = found.failure;
-    let n = arity(bundle, b, send.function);
-    let end = put_send(text, at, wide(failure.number()), found.signature, n, send);
+    let number = failure.number();
+    let n = bundle.arity(send.function);
+    let end = put_send(text, at, number, found.signature, n, send);
     put_failure(text, end, failure)
 }
 
 // Writes the line of a body finding.
 fn body_line(text: &mut [u8], at: usize, found: BodyFinding) -> usize
     requires { at + 108 ≤ length text.old }
-    ensures { (M : Model) → Appended 108 text.old at (refused_line M found.number (found.method ∷ found.instruction ∷ [])) text.new result }
+    ensures { (M : Model) → Appended 108 text.old at (refused_line M (code_of found.number) (found.method ∷ found.instruction ∷ [])) text.new result }
 {
-    let p = put_field(text, at, b"refused ", wide(found.number));
+    let p = put_number(text, at, found.number);
     let q = put_field(text, p, b" method ", found.method);
     let end = put_field(text, q, b" at ", found.instruction);
     put_word(text, end, b"\n")
 }
 
 // Writes the line of a finding of the check.
-fn finding_line(bundle: &[u8], b: Bundle, text: &mut [u8], at: usize, found: Finding) -> usize
-    requires opened { Opened bundle.now b }
-    requires named_by { NamedBy b.functions found }
+fn finding_line(bundle: &OpenBundle<'_>, text: &mut [u8], at: usize, found: Finding) -> usize
+    requires named_by { NamedBy bundle.now.tables.functions found }
     requires finding_room_in_bounds { at + finding_room ≤ length text.old }
-    ensures { Appended finding_room text.old at (verdict_line (model_of bundle.now) (verdict_said (refused_with found))) text.new result }
+    ensures { Appended finding_room text.old at (verdict_line (model bundle.now) (verdict_said (refused_with found))) text.new result }
 {
     match found {
         Finding::Layout(layout) => layout_line(text, at, layout),
         // The listing has scratch enough of its own, and so never prints this.
-        Finding::Scratch => number_line(text, at, SHORT_SCRATCH as usize),
-        Finding::Coverage(coverage) => coverage_line(bundle, b, text, at, coverage),
+        Finding::Scratch => number_line(text, at, usize::from(Number::ShortScratch.code())),
+        Finding::Coverage(coverage) => coverage_line(bundle, text, at, coverage),
         Finding::Body(body) => body_line(text, at, body),
     }
 }
 
 // Writes the line of the check's verdict.
-pub fn verdict_line(bundle: &[u8], b: Bundle, text: &mut [u8], at: usize, verdict: Verdict) -> usize
-    requires opened { Opened bundle.now b }
-    requires named { Named b.functions verdict }
+pub fn verdict_line(
+    bundle: &OpenBundle<'_>,
+    text: &mut [u8],
+    at: usize,
+    verdict: Result<(), Finding>,
+) -> usize
+    requires named { Named bundle.now.tables.functions verdict }
     requires finding_room_in_bounds { at + finding_room ≤ length text.old }
-    ensures { Appended finding_room text.old at (verdict_line (model_of bundle.now) (verdict_said verdict)) text.new result }
+    ensures { Appended finding_room text.old at (verdict_line (model bundle.now) (verdict_said verdict)) text.new result }
 {
     match verdict {
-        Verdict::Accepted => put_word(text, at, b"accepted\n"),
-        Verdict::Refused(found) => finding_line(bundle, b, text, at, found),
+        Ok(()) => put_word(text, at, b"accepted\n"),
+        Err(found) => finding_line(bundle, text, at, found),
     }
 }

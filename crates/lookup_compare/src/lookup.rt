@@ -4,7 +4,7 @@
 ghost use Rattle.std.specs.Prelude.{◌<◌, ◌≤◌};
 
 use crate::ancestry::is_under;
-use crate::record::{METHODS, Places, function_of, method_count, specialisers};
+use crate::record::{Places, function_of, method_count, specialisers};
 use reply::Reply;
 
 // Whether each class is under the other at its place. All three places are compared: an unused one holds class 0 on both sides.
@@ -12,16 +12,6 @@ fn all_under(bundle: &[u8], classes: Places, others: Places) -> bool {
     is_under(bundle, classes.p0, others.p0)
         && is_under(bundle, classes.p1, others.p1)
         && is_under(bundle, classes.p2, others.p2)
-}
-
-// 1 for a test that holds, to be added up.
-fn one_if(holds: bool) -> usize
-    ensures { result ≤ 1 }
-{
-    if holds {
-        return 1;
-    }
-    0
 }
 
 // Whether each class is the one at its place. Unused places hold 0 on both sides.
@@ -64,8 +54,8 @@ fn rank_of(bundle: &[u8], applicable: &[u8; 512], method: usize) -> Rank
             continue;
         }
         let theirs = specialisers(bundle, m);
-        below += one_if(all_under(bundle, mine, theirs));
-        above += one_if(all_under(bundle, theirs, mine));
+        below += usize::from(all_under(bundle, mine, theirs));
+        above += usize::from(all_under(bundle, theirs, mine));
     }
     Rank { below, above }
 }
@@ -90,15 +80,8 @@ impl Rivals {
     }
 }
 
-// What a search through the applicable methods ends with: the method found, with its specialisers, or the last rivals.
-#[derive(Clone, Copy)]
-enum Outcome {
-    Method(usize, Places),
-    Rivals(Rivals),
-}
-
-// Goes through the applicable methods, of which there are `count`, lowest first.
-fn search(bundle: &[u8], applicable: &[u8; 512], count: usize) -> Outcome {
+// Goes through the applicable methods, of which there are `count`, lowest first: the method found, with its specialisers, or the last rivals.
+fn search(bundle: &[u8], applicable: &[u8; 512], count: usize) -> Result<(usize, Places), Rivals> {
     let methods = method_count(bundle);
     let mut rivals = Rivals::new();
     for candidate in 0..methods {
@@ -107,13 +90,13 @@ fn search(bundle: &[u8], applicable: &[u8; 512], count: usize) -> Outcome {
         }
         let standing = rank_of(bundle, applicable, candidate);
         if standing.below == count {
-            return Outcome::Method(candidate, specialisers(bundle, candidate));
+            return Ok((candidate, specialisers(bundle, candidate)));
         }
         if standing.above == 1 {
             rivals = rivals.with(candidate);
         }
     }
-    Outcome::Rivals(rivals)
+    Err(rivals)
 }
 
 // A number that names the send, and two methods or none.
@@ -133,7 +116,7 @@ pub(crate) fn lookup(bundle: &[u8], function: usize, args: Places) -> Reply {
         return of_send(10, function, args, 0, 0);
     }
     match search(bundle, &applicable, count) {
-        Outcome::Method(m, own) => Reply::pair(0, m, one_if(all_same(args, own))),
-        Outcome::Rivals(rivals) => of_send(11, function, args, rivals.newest, rivals.next),
+        Ok((m, own)) => Reply::given(m, usize::from(all_same(args, own))),
+        Err(rivals) => of_send(11, function, args, rivals.newest, rivals.next),
     }
 }

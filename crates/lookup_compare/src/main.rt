@@ -3,6 +3,7 @@
 #![tactic(auto)]
 
 mod ancestry;
+mod counts;
 mod generator;
 mod lookup;
 mod made;
@@ -12,8 +13,7 @@ mod record;
 
 ghost use Rattle.std.specs.Prelude.{◌<◌, ◌≤◌};
 
-use ancestry::{HEIR, SAME};
-use answers::opening::Opening;
+use counts::Counts;
 use curiumtoad::opening::open;
 use curiumtoad::{Send, Tuple};
 use generator::draw;
@@ -24,96 +24,23 @@ use record::{arity, class_count, function_count};
 use reply::Reply;
 use std::io;
 use test_support::buffer::SCRATCH;
-use test_support::counts::add_one;
 use test_support::replies::{is_same, print_reply};
 
 const BUNDLES: usize = 64;
 
-// What is counted: calls, those that differ, bundles, and those that do not open. The rest says how often each kind of answer came, so that a comparison in
-// which a kind is missing shows.
-const COUNTS: usize = 11;
-
-const CALLS: usize = 0;
-
-const DIFFERING: usize = 1;
-
-const MADE: usize = 2;
-
-const UNOPENED: usize = 3;
-
-const EXACT: usize = 4;
-
-const INEXACT: usize = 5;
-
-const MISSING: usize = 6;
-
-const AMBIGUOUS: usize = 7;
-
-const OF_SAME: usize = 8;
-
-const OF_HEIR: usize = 9;
-
-const OF_NEITHER: usize = 10;
-
-// The count that an answer belongs to. A refusal belongs to none.
-fn kind(question: Question, got: Reply) -> usize {
-    let number = got.number;
-    let values = got.values;
-    if number == 10 {
-        return MISSING;
-    }
-    if number == 11 {
-        return AMBIGUOUS;
-    }
-    if number != 0 {
-        return COUNTS;
-    }
-    if question.is_lookup {
-        return if values[1] == 1 { EXACT } else { INEXACT };
-    }
-    if values[0] == SAME {
-        return OF_SAME;
-    }
-    if values[0] == HEIR {
-        return OF_HEIR;
-    }
-    OF_NEITHER
-}
-
-fn count_bundle(counts: &mut [u64; COUNTS], opens: bool) {
-    add_one(counts, MADE);
-    if !opens {
-        add_one(counts, UNOPENED);
-    }
-}
-
-fn print_counts(rt: &impl Print, counts: &[u64; COUNTS]) -> io::Result<()> {
-    print!(rt; "lookup compared {}", counts[CALLS])?;
-    print!(rt; " differing {}", counts[DIFFERING])?;
-    print!(rt; " bundles {}", counts[MADE])?;
-    print!(rt; " unopened {}\n", counts[UNOPENED])?;
-    print!(rt; "exact {}", counts[EXACT])?;
-    print!(rt; " inexact {}", counts[INEXACT])?;
-    print!(rt; " missing {}", counts[MISSING])?;
-    print!(rt; " ambiguous {}", counts[AMBIGUOUS])?;
-    print!(rt; " same {}", counts[OF_SAME])?;
-    print!(rt; " heir {}", counts[OF_HEIR])?;
-    print!(rt; " neither {}\n", counts[OF_NEITHER])
-}
-
 // The first call that differs: its number, the bundle it is put to, what is asked, both answers, and whether the scratch is not as it has to be.
 fn print_first(
     rt: &impl Print,
-    counts: &[u64; COUNTS],
+    counts: &Counts,
     question: Question,
     got: Reply,
     second: Reply,
     is_scratch: bool,
 ) -> io::Result<()> {
-    if counts[DIFFERING] > 0 {
+    if counts.differing > 0 {
         return Ok(());
     }
-    print!(rt; "differs {} bundle {}", counts[CALLS], counts[MADE])?;
+    print!(rt; "differs {} bundle {}", counts.calls, counts.bundles)?;
     question.print(rt)?;
     print!(rt; " got")?;
     print_reply(rt, got)?;
@@ -132,15 +59,14 @@ fn judge(
     question: Question,
     got: Reply,
     is_scratch: bool,
-    counts: &mut [u64; COUNTS],
+    counts: &mut Counts,
 ) -> io::Result<()> {
     let second = question.second_answer(bundle);
-    if !is_scratch || !is_same(got, second) {
+    let is_same = is_scratch && is_same(got, second);
+    if !is_same {
         print_first(rt, counts, question, got, second, is_scratch)?;
-        add_one(counts, DIFFERING);
     }
-    add_one(counts, CALLS);
-    add_one(counts, kind(question, got));
+    counts.count_call(question, got, is_same);
     Ok(())
 }
 
@@ -149,7 +75,7 @@ fn compare(
     bundle: &[u8],
     scratch: &mut [u8],
     question: Question,
-    counts: &mut [u64; COUNTS],
+    counts: &mut Counts,
 ) -> io::Result<()> {
     let got = question.answer(bundle, scratch);
     judge(rt, bundle, question, got, true, counts)
@@ -187,37 +113,36 @@ fn stride(classes: usize, arity: usize) -> usize
     1001
 }
 
-// The question that a tuple's number stands for.
-fn question_of(is_lookup: bool, function: usize, number: usize) -> Question {
-    let tuple = Tuple {
+// The tuple that a number stands for.
+fn tuple_of(number: usize) -> Tuple {
+    Tuple {
         a0: number % 128,
         a1: number / 128 % 128,
         a2: number / 16384,
-    };
-    let send = Send { function, tuple };
-    Question { is_lookup, send }
+    }
 }
 
-fn is_present(tuple: usize, classes: usize) -> bool {
-    tuple % 128 < classes && tuple / 128 % 128 < classes && tuple / 16384 < classes
+fn is_present(tuple: Tuple, classes: usize) -> bool {
+    tuple.a0 < classes && tuple.a1 < classes && tuple.a2 < classes
 }
 
-// Compares the tuples of one function, or, where lookup is not asked, the pairs of classes.
-fn compare_tuples(
+// Compares what is asked of each tuple of so many classes, or of those of a stride.
+fn compare_tuples<F: Fn(Tuple) -> Question>(
     rt: &impl Print,
     bundle: &[u8],
     scratch: &mut [u8],
-    is_lookup: bool,
-    function: usize,
     arity: usize,
-    counts: &mut [u64; COUNTS],
-) -> io::Result<()> {
+    ask: F,
+    counts: &mut Counts,
+) -> io::Result<()>
+    requires { F.IsAlwaysCallable ask }
+{
     let classes = class_count(bundle);
     let limit = tuple_limit(arity);
-    for tuple in (0..limit).step_by(stride(classes, arity)) {
+    for number in (0..limit).step_by(stride(classes, arity)) {
+        let tuple = tuple_of(number);
         if is_present(tuple, classes) {
-            let question = question_of(is_lookup, function, tuple);
-            compare(rt, bundle, scratch, question, counts)?;
+            compare(rt, bundle, scratch, ask(tuple), counts)?;
         }
     }
     Ok(())
@@ -227,11 +152,11 @@ fn compare_functions(
     rt: &impl Print,
     bundle: &[u8],
     scratch: &mut [u8],
-    counts: &mut [u64; COUNTS],
+    counts: &mut Counts,
 ) -> io::Result<()> {
     for function in 0..function_count(bundle) {
-        let places = arity(bundle, function);
-        compare_tuples(rt, bundle, scratch, true, function, places, counts)?;
+        let ask = |tuple| Question::Lookup(Send { function, tuple });
+        compare_tuples(rt, bundle, scratch, arity(bundle, function), ask, counts)?;
     }
     Ok(())
 }
@@ -241,9 +166,9 @@ fn compare_scratch(
     rt: &impl Print,
     bundle: &[u8],
     filler: u8,
-    counts: &mut [u64; COUNTS],
+    counts: &mut Counts,
 ) -> io::Result<()> {
-    let question = question_of(false, 0, 0);
+    let question = Question::Ancestry(0, 0);
     let mut scratch = [filler; SCRATCH];
     let mut left = [filler; SCRATCH];
     put_matrix(bundle, &mut left);
@@ -251,29 +176,23 @@ fn compare_scratch(
     judge(rt, bundle, question, got, scratch == left, counts)
 }
 
-fn opens(bundle: &[u8]) -> bool {
-    match open(bundle) {
-        Opening::Opened(_) => true,
-        Opening::Refused(_) => false,
-    }
-}
-
 fn compare_bundle(
     rt: &impl Print,
     bundle: &[u8],
     scratch: &mut [u8],
-    counts: &mut [u64; COUNTS],
+    counts: &mut Counts,
 ) -> io::Result<()> {
-    if !opens(bundle) {
-        count_bundle(counts, false);
+    if open(bundle).is_err() {
+        counts.count_bundle(false);
         return Ok(());
     }
     // A byte that is not written cannot be right both times.
     compare_scratch(rt, bundle, 0, counts)?;
     compare_scratch(rt, bundle, 255, counts)?;
-    compare_tuples(rt, bundle, scratch, false, 0, 2, counts)?;
+    let pairs = |tuple: Tuple| Question::Ancestry(tuple.a0, tuple.a1);
+    compare_tuples(rt, bundle, scratch, 2, pairs, counts)?;
     compare_functions(rt, bundle, scratch, counts)?;
-    count_bundle(counts, true);
+    counts.count_bundle(true);
     Ok(())
 }
 
@@ -312,14 +231,14 @@ fn compare_all(
     rt: &impl Print,
     space: &mut [u8],
     scratch: &mut [u8],
-    counts: &mut [u64; COUNTS],
+    counts: &mut Counts,
 ) -> io::Result<()> {
     let mut state: u64 = 2718281828;
     for number in 0..BUNDLES {
         let plan = draw_plan(&mut state, number);
         let len = make(space, &mut state, plan);
         if len > space.len() {
-            count_bundle(counts, false);
+            counts.count_bundle(false);
         } else {
             compare_bundle(rt, &space[..len], scratch, counts)?;
         }
@@ -330,7 +249,7 @@ fn compare_all(
 fn main(rt: HostRuntime) -> io::Result<()> {
     let mut space = [0u8; 65536];
     let mut scratch = [0u8; SCRATCH];
-    let mut counts = [0u64; COUNTS];
+    let mut counts = Counts::new();
     compare_all(&rt, &mut space, &mut scratch, &mut counts)?;
-    print_counts(&rt, &counts)
+    counts.print(&rt)
 }

@@ -8,45 +8,47 @@ use reply::Reply;
 use std::io;
 use test_support::print::print_values;
 
-// Lookup of a send, or ancestry of the classes at its first two places. All of them are there, and unused places hold 0.
+// Lookup of a send, or how a class stands to another. All of them are there, and unused places hold 0.
 #[derive(Clone, Copy)]
-pub(crate) struct Question {
-    pub(crate) is_lookup: bool,
-    pub(crate) send: Send,
+pub(crate) enum Question {
+    Lookup(Send),
+    Ancestry(usize, usize),
 }
 
 impl Question {
     pub(crate) fn answer(self, bundle: &[u8], scratch: &mut [u8]) -> Reply {
-        let send = self.send;
-        if self.is_lookup {
-            return Reply::of_lookup(lookup(bundle, scratch, send));
+        match self {
+            Question::Lookup(send) => Reply::from(lookup(bundle, scratch, send)),
+            Question::Ancestry(a, c) => Reply::from(ancestry(bundle, scratch, a, c)),
         }
-        let tuple = send.tuple;
-        Reply::of_ancestry(ancestry(bundle, scratch, tuple.a0, tuple.a1))
     }
 
     pub(crate) fn second_answer(self, bundle: &[u8]) -> Reply {
-        let send = self.send;
-        let tuple = send.tuple;
-        if self.is_lookup {
-            let args = Places {
-                p0: tuple.a0,
-                p1: tuple.a1,
-                p2: tuple.a2,
-            };
-            return crate::lookup::lookup(bundle, send.function, args);
+        match self {
+            Question::Lookup(send) => {
+                let tuple = send.tuple;
+                let args = Places {
+                    p0: tuple.a0,
+                    p1: tuple.a1,
+                    p2: tuple.a2,
+                };
+                crate::lookup::lookup(bundle, send.function, args)
+            }
+            Question::Ancestry(a, c) => Reply::given(standing(bundle, a, c), 0),
         }
-        Reply::pair(0, standing(bundle, tuple.a0, tuple.a1), 0)
     }
 
     pub(crate) fn print(self, rt: &impl Print) -> io::Result<()> {
-        let send = self.send;
-        let tuple = send.tuple;
-        if self.is_lookup {
-            print!(rt; " lookup {}", send.function)?;
-        } else {
-            print!(rt; " ancestry")?;
+        match self {
+            Question::Lookup(send) => {
+                let tuple = send.tuple;
+                print!(rt; " lookup {}", send.function)?;
+                print_values(rt, &[tuple.a0, tuple.a1, tuple.a2])
+            }
+            Question::Ancestry(a, c) => {
+                print!(rt; " ancestry")?;
+                print_values(rt, &[a, c, 0])
+            }
         }
-        print_values(rt, &[tuple.a0, tuple.a1, tuple.a2])
     }
 }

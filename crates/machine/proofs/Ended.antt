@@ -1,12 +1,12 @@
 -- Where a body goes on, ends in a value for its caller or for the run, or stops: `resumed` by what the arrays say of the frame on top.
 -- Assumes nothing.
-use Prim.Native.Nat.{ℕ, suc, ◌+◌, ◌*◌, ◌≤◌, ◌<◌}
+use Prim.Native.Nat.{ℕ, suc, ◌+◌, ◌≤◌, ◌<◌}
 use native.Mathlib.Omega.{arith}
 use mathlib.Core.Path.{◌≡◌, refl, sym, ap, ap₂, ◌∙◌}
 use mathlib.Core.Bool.{true, false≢true}
 use mathlib.Core.List.{List, [], ◌∷◌}
 use lib.Dec.{ltb}
-use lib.ListN.{length, get_or, drop, length-set, drop_of_length-le}
+use lib.ListN.{length, get_or, drop, drop_of_length-le}
 use lib.Seq.{drop-cons}
 use borrow.Author.Tests.{ltb-true, lt-ltb}
 use Rattle.rules.specs.Numbers as numbers
@@ -14,7 +14,7 @@ use Rattle.rules.specs.Bounded.{every}
 use Rattle.rules.specs.Model.{Model, Instr, arg, present}
 use Rattle.rules.specs.Machine.{Frame, goes, ends, value, stopped, stopped_at, settled, settle, push, proceed, return_to, resume, max_frames}
 use Rattle.rules.proofs.Lists.{and_left, and_both}
-use Rattle.frames.specs.Arrays.{frame_numbers, method_at, next_at, height_at, stack_at, raised, laid}
+use Rattle.frames.specs.Arrays.{method_at, next_at, height_at, stack_at, raised, laid}
 use Rattle.machine.specs.Held.{stack_from, frame_of, callers_of, resumed, next_of, split, FrameFits, Waits, Waiting, waiting, Held, held, Going, going}
 use Rattle.machine.proofs.Stores.{length_stack, numbers_of, waits_of, fits_of, waiting_of, has_frame, has_stack, StackRoom, pushed_frame, pushed_callers}
 
@@ -125,7 +125,5 @@ module _ (M : Model) (fs vs : List ℕ) where
           )
 
       pub resumed_hands : (fs' vs' : List ℕ) (v : ℕ) → fs' ≡ raised fs j → vs' ≡ laid fs vs j v → v ≡ get_or vs (stack_at k) 0
-          → Held M fs' vs' j × (resumed M fs' vs' j ≡ resumed M fs vs k) × (length fs' ≡ length fs) × (length vs' ≡ length vs)
-      resumed_hands fs' vs' v p q r =
-          rw (p, q, r)
-          (hands.1, hands.0, length-set fs (frame_numbers * j + 2) (height_at fs j + 1), length-set vs (stack_at j + height_at fs j) (get_or vs (stack_at k) 0))
+          → Held M fs' vs' j × (resumed M fs' vs' j ≡ resumed M fs vs k)
+      resumed_hands fs' vs' v p q r = rw (p, q, r) (hands.1, hands.0)

@@ -1,6 +1,7 @@
 -- An instruction of the frame on top: the frame that has passed it, the value that it puts, the arguments that it takes off, and those that it hands on.
 -- Assumes nothing.
 use Prim.Native.Nat.{ℕ, zero, suc, ◌+◌, ◌*◌, ◌≤◌, ◌<◌}
+use Rattle.std.specs.Prelude.{Ok}
 use native.Mathlib.Nat.{le_of_suc-le-suc, eq-or-lt_of_le}
 use native.Mathlib.Numerals.{add-one}
 use native.Mathlib.Omega.{arith}
@@ -33,7 +34,6 @@ use Rattle.subclasses.proofs.Asked.{class_below}
 use Rattle.frames.specs.Arrays.{frame_numbers, frame_bytes, stack_room, method_at, next_at, height_at, stack_at, HasFrame, raised, laid, lowered, passed}
 use Rattle.machine.specs.Held.{stack_from, frame_of, callers_of, split, turn_at, FrameFits, Waiting, waiting, Held, held, Going, going}
 use Rattle.machine.specs.Endings.{StepsTo}
-use Rattle.machine.specs.declared.ending.Stepped.TheVariants as stepped
 use Rattle.machine.proofs.Stores.{length_stack, drop_stack, take_stack, kept, frame_of_lem, callers_same, waiting_same, numbers_of, fits_of, waiting_of, waits_of, StackRoom, pushed_frame, pushed_callers, lowered_frame}
 
 pub held_of : {M : Model} {fs vs : List ℕ} {k : ℕ} → Going M fs vs k → Held M fs vs k
@@ -184,9 +184,9 @@ module _ (M : Model) (w : Wellformed M) (fs vs : List ℕ) (k : ℕ) (g : Going 
         let callers = pushed_callers M (passed fs k) vs k v room rest.1 in
         (held n.frame.few (rw same fits) callers.1, ap₂ made same (callers.0 ∙ rest.0))
 
-    pub put_made : (fs' fs'' vs' : List ℕ) → fs' ≡ passed fs k → fs'' ≡ raised fs' k → vs' ≡ laid fs' vs k v
-        → StepsTo M fs'' vs' (stepped.Made k) (made (after (split M top) (v ∷ top.stack)) (callers_of M fs vs k))
-    put_made fs' fs'' vs' e p q = rw (p, q, e) (record { turned = puts.1; holding = puts.0 })
+    pub put_made : (fs' fs'' vs' vs'' : List ℕ) → fs' ≡ passed fs k → vs' ≡ vs → fs'' ≡ raised fs' k → vs'' ≡ laid fs' vs' k v
+        → StepsTo M fs'' vs'' (Ok k) (made (after (split M top) (v ∷ top.stack)) (callers_of M fs vs k))
+    put_made fs' fs'' vs' vs'' e r p q = rw (p, q, e, r) (record { turned = puts.1; holding = puts.0 })
 
   pub lowered_next : (j : ℕ) (fs' : List ℕ) → fs' ≡ lowered fs k j → HasFrame fs' k × (next_at fs' k < stack_room)
   lowered_next j fs' e =
@@ -240,14 +240,14 @@ module _ (M : Model) (w : Wellformed M) (fs vs : List ℕ) (k : ℕ) (g : Going 
           classes = top_present M vs (stack_at k) n j (sent_room few) (rw h at (fits_of (held_of g)).values_present);
         }
 
-    pub send_called : M.arity f ≡ n → n ≤ places → f < M.functions → (fs' fs'' tuple : List ℕ) → fs' ≡ lowered fs k j → fs'' ≡ passed fs' k
+    pub send_called : M.arity f ≡ n → n ≤ places → f < M.functions → (fs' fs'' vs' tuple : List ℕ) → fs' ≡ lowered fs k j → fs'' ≡ passed fs' k → vs' ≡ vs
         → tuple ≡ padded (part vs (stack_at k + j) n)
-        → Arguments M f (take n tuple) × Waiting M fs'' vs (k + 1) × (call M f (take n tuple) (callers_of M fs'' vs (k + 1)) ≡ turn_at M fs vs k (send f))
-    send_called e few below fs' fs'' tuple p q r =
+        → Arguments M f (take n tuple) × Waiting M fs'' vs' (k + 1) × (call M f (take n tuple) (callers_of M fs'' vs' (k + 1)) ≡ turn_at M fs vs k (send f))
+    send_called e few below fs' fs'' vs' tuple p q s r =
         let args = part vs (stack_at k + j) n in
         let long : length args ≡ n = part_length vs (stack_at k + j) n (sent_room few) in
         let read : take n (padded args) ≡ args = rw long at (padded_read args (omega arith)) in
-        rw (r, read, q, p, add-one k) (sent_arguments e few below, sent_waiting, sends e few)
+        rw (r, read, q, p, s, add-one k) (sent_arguments e few below, sent_waiting, sends e few)
 
   -- 14 where there are fewer values than arguments
   pub send_stops : (f : ℕ) → height_at fs k < M.arity f → turn_at M fs vs k (send f) ≡ failed (stopped numbers.bad_stack (method_at fs k ∷ next_at fs k ∷ []))
@@ -288,12 +288,12 @@ module _ (M : Model) (w : Wellformed M) (fs vs : List ℕ) (k : ℕ) (g : Going 
       )
 
   -- it waits for the target's value, with its stack as it was
-  pub resend_enters : (t : ℕ) → declared_hold M t top.args ≡ true → (fs' : List ℕ) → fs' ≡ passed fs k
-      → Waiting M fs' vs (k + 1) × (enter M t top.args (callers_of M fs' vs (k + 1)) ≡ resend_to M (split M top) (callers_of M fs vs k) (found t))
+  pub resend_enters : (t : ℕ) → declared_hold M t top.args ≡ true → (fs' vs' : List ℕ) → fs' ≡ passed fs k → vs' ≡ vs
+      → Waiting M fs' vs' (k + 1) × (enter M t top.args (callers_of M fs' vs' (k + 1)) ≡ resend_to M (split M top) (callers_of M fs vs k) (found t))
   unfolding resend_to split
-  resend_enters t e fs' q =
+  resend_enters t e fs' vs' q s =
       let (callers, waits) = resent_waiting in
-      rw (q, add-one k, e) (waits, ap (enter M t top.args) callers)
+      rw (q, s, add-one k, e) (waits, ap (enter M t top.args) callers)
 
   -- 27 where the target's declared classes do not hold the arguments
   pub narrow_stops : (t : ℕ) → declared_hold M t top.args ≡ false

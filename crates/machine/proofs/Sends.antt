@@ -1,6 +1,7 @@
 -- What a send comes to: the frame that is opened, or the number that stops it.
 -- Assumes nothing.
 use Prim.Native.Nat.{ℕ, zero, suc, ◌+◌, ◌*◌, ◌≤◌, ◌<◌}
+use Rattle.std.specs.Prelude.{Result, Ok, Err}
 use native.Mathlib.Omega.{arith}
 use mathlib.Core.Path.{◌≡◌, refl, sym, ap, ap₂, ◌∙◌}
 use mathlib.Core.Bool.{true, false}
@@ -23,8 +24,7 @@ use Rattle.subclasses.specs.Places.{Arguments}
 use Rattle.frames.specs.Arrays.{frame_numbers, frame_bytes, HasFrame, HasStack, begun, given}
 use Rattle.machine.specs.Held.{frame_with, frame_of, callers_of, FrameFits, Waiting, Held, held}
 use Rattle.machine.specs.Endings.{Enters, StepsTo}
-use Rattle.machine.specs.declared.ending.Stepped.{Stepped}
-use Rattle.machine.specs.declared.ending.Stepped.TheVariants as stepped
+use Rattle.machine.specs.declared.ending.Ending.{Ending}
 use Rattle.machine.proofs.Stores.{part_prefix, kept, frame_of_lem, callers_same, waiting_same, waits_of, has_frame, has_stack}
 
 -- frame k opened for method m
@@ -108,14 +108,14 @@ length_callers M fs vs zero = refl
 length_callers M fs vs (suc n) = ap suc (length_callers M fs vs n)
 
 -- what the arrays hold after a frame was opened in them is what the rules say
-pub enters_as : {M : Model} → Wellformed M → {fs vs args fs' vs' : List ℕ} {k m f : ℕ} (r : Stepped) → Enters fs vs args m k fs' vs' r → Waiting M fs vs k
+pub enters_as : {M : Model} → Wellformed M → {fs vs args fs' vs' : List ℕ} {k m f : ℕ} (r : Result ℕ Ending) → Enters fs vs args m k fs' vs' r → Waiting M fs vs k
     → m < M.methods → M.function m ≡ f → Arguments M f args → StepsTo M fs' vs' r (enter M m args (callers_of M fs vs k))
 unfolding enter
-enters_as {M} w {fs} {vs} {args} {fs'} {vs'} {k} {m} {f} (stepped.Made top) (same, below, e, g) all h q a =
+enters_as {M} w {fs} {vs} {args} {fs'} {vs'} {k} {m} {f} (Ok top) (same, below, e, g) all h q a =
     let (on-top, now) = entered M w fs vs k m f args fs' vs' below e g all h q a in
     let room = lt-ltb (length (callers_of M fs vs k)) max_frames (omega (arith, length_callers M fs vs k, below)) in
     rw same (record { turned = rw room now; holding = on-top })
-enters_as {M} w {fs} {vs} {k = k} (stepped.Failed e) (deep, full) all h q a =
+enters_as {M} w {fs} {vs} {k = k} (Err e) (deep, full) all h q a =
     let none = le-ltb (length (callers_of M fs vs k)) max_frames (omega (arith, length_callers M fs vs k, full)) in
     record { turned = rw none (ap failed deep); holding = tt }
 

@@ -89,12 +89,6 @@ waiting_of (held l s w) = w
 pub waits_of : {M : Model} {fs vs : List ℕ} {n : ℕ} → Waiting M fs vs n → Waits M (callers_of M fs vs n)
 waits_of (waiting p q l w) = w
 
-pub waiting_few : {M : Model} {fs vs : List ℕ} {n : ℕ} → Waiting M fs vs n → n ≤ max_frames
-waiting_few (waiting p q l w) = l
-
-pub waiting_long : {M : Model} {fs vs : List ℕ} {n : ℕ} → Waiting M fs vs n → (frame_numbers * max_frames ≤ length fs) × (frame_bytes * max_frames ≤ length vs)
-waiting_long (waiting p q l w) = (p, q)
-
 -- the arrays have room for frame k
 pub has_frame : {M : Model} {fs vs : List ℕ} {n : ℕ} → Waiting M fs vs n → (k : ℕ) → k < max_frames → HasFrame fs k
 has_frame (waiting p q l w) k h = record { few = h; long = p }

@@ -1,9 +1,8 @@
-// The machine: sends, resends, returns and single instructions over frames in lent arrays, and the run of a send.
+// The machine: sends, resends, returns and single instructions over frames, and the run of a send.
 #![tactic(auto)]
 
 mod call;
 pub mod ending;
-mod progress;
 mod resend;
 mod returning;
 pub mod run;

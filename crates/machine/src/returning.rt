@@ -1,46 +1,47 @@
 // The ends of bodies.
-ghost use Rattle.rules.specs.Model.{model_of};
-ghost use Rattle.rules.specs.Machine.{progress};
-ghost use Rattle.layout.specs.Opened.{Opened};
+ghost use Rattle.layout.specs.Bundles.{model};
 ghost use Rattle.machine.specs.Held.{resumed, Held};
-ghost use Rattle.machine.specs.Progress.{ProgressTo};
+ghost use Rattle.machine.specs.Progress.{BodyAt, ResumesTo};
 
 use crate::ending::Ending;
-use crate::progress::Progress;
-use answers::number::BAD_STACK;
-use frames::frame::{method, next};
-use frames::stack::{height, lowest, push};
-use layout::bundle::Bundle;
-use layout::field::size;
+use answers::number::Number;
+use frames::frame::Frames;
+use layout::open::OpenBundle;
 
-// Returns the value of each body that has ended to its caller, until a frame has an instruction left or the run ends.
-pub(crate) fn return_values(
-    bytes: &[u8],
-    b: Bundle,
-    frames: &mut [usize],
-    values: &mut [u8],
-    top: usize,
-    steps: u32,
-) -> Progress
-    requires opened { Opened bytes.now b }
-    requires held { Held (model_of bytes.now) frames.old values.old top }
-    ensures { let M = model_of bytes.now in ProgressTo M frames.new values.new result (progress (resumed M frames.old values.old top) steps) }
+// The value of the body of frame k, or none while it has an instruction left; 14 where it ended without just one value.
+fn value_of(bundle: &OpenBundle<'_>, frames: &Frames, k: usize) -> Result<Option<usize>, Ending>
+    requires held { Held (model bundle.now) frames.now.numbers frames.now.values k }
+    ensures { BodyAt (model bundle.now) frames.now.numbers frames.now.values k result }
 {
-    let mut k = top;
-    loop {
-        let m = method(frames, k);
-        let at = next(frames, k);
-        if at < size(bytes, b, m) {
-            return Progress::Goes(k, steps);
-        }
-        if height(frames, k) != 1 {
-            return Progress::Ended(Ending::Stopped(BAD_STACK, m, at), steps);
-        }
-        let v = lowest(values, k);
-        if k == 0 {
-            return Progress::Ended(Ending::Value(v), steps);
-        }
-        k -= 1;
-        push(frames, values, k, v);
+    let m = frames.method(k);
+    let at = frames.next(k);
+    if at < bundle.size(m) {
+        return Ok(None);
     }
+    if frames.height(k) != 1 {
+        return Err(Ending::Stopped(Number::BadStack, m, at));
+    }
+    Ok(Some(frames.lowest(k)))
+}
+
+// Returns the value of each body that has ended to its caller, until a frame has an instruction left, which is then on top, or the run ends.
+pub(crate) fn return_values(
+    bundle: &OpenBundle<'_>,
+    frames: &mut Frames,
+    top: usize,
+) -> Result<usize, Ending>
+    requires held { Held (model bundle.now) frames.old.numbers frames.old.values top }
+    ensures { let M = model bundle.now in ResumesTo M frames.new.numbers frames.new.values result (resumed M frames.old.numbers frames.old.values top) }
+{
+    for caller in (0..top).rev() {
+        let k = caller + 1;
+        let Some(v) = value_of(bundle, frames, k)? else {
+            return Ok(k);
+        };
+        frames.push(caller, v);
+    }
+    let Some(v) = value_of(bundle, frames, 0)? else {
+        return Ok(0);
+    };
+    Err(Ending::Value(v))
 }

@@ -1,23 +1,19 @@
 // Whole runs: the start, and paces until one ends the run or the count is used up.
-ghost use Rattle.std.specs.Prelude.{◌≡◌, ◌*◌, ◌<◌, length};
-ghost use Rattle.rules.specs.Model.{model_of};
-ghost use Rattle.rules.specs.Machine.{max_frames, progress, start, pace_from, run_from, run};
-ghost use Rattle.subclasses.specs.Prepared.{Prepared};
+ghost use Rattle.std.specs.Prelude.{◌≡◌, ◌+◌, ◌<◌};
+ghost use Rattle.rules.specs.Machine.{progress, start, pace_from, run_from, run};
+ghost use Rattle.layout.specs.Bundles.{model};
 ghost use Rattle.subclasses.specs.Places.{Arguments};
-ghost use Rattle.dispatch.specs.Index.{Indexed};
-ghost use Rattle.frames.specs.Arrays.{frame_numbers, frame_bytes};
 ghost use Rattle.machine.specs.Held.{resumed, Waiting, Going};
-ghost use Rattle.machine.specs.Progress.{ProgressTo};
+ghost use Rattle.machine.specs.Progress.{ResumesTo, ProgressTo};
 ghost use Rattle.machine.specs.Outcome.{outcome_of};
 
-use crate::call::{MAX_FRAMES, call};
-use crate::ending::{Ending, Stepped};
-use crate::progress::Progress;
+use crate::call::call;
+use crate::ending::Ending;
 use crate::returning::return_values;
 use crate::step::step;
-use dispatch::index::index_methods;
-use frames::frame::{FRAME_BYTES, FRAME_NUMBERS};
-use layout::bundle::Bundle;
+use dispatch::index::IndexedBundle;
+use frames::frame::Frames;
+use subclasses::prepared::PreparedBundle;
 
 // The ending of a run and the steps made.
 #[derive(Clone, Copy)]
@@ -26,123 +22,72 @@ pub struct Outcome {
     pub steps: u32,
 }
 
-// The start of a run: the send that opens it, with the ends of bodies that follow.
+// The start of a run, which is no step: the send that opens it, with the ends of bodies that follow. It leaves a frame on top, or ends the run.
 fn start(
-    bytes: &[u8],
-    b: Bundle,
-    scratch: &[u8],
-    index: &[usize],
-    frames: &mut [usize],
-    values: &mut [u8],
+    indexed: &IndexedBundle<'_>,
+    frames: &mut Frames,
     f: usize,
     args: &[u8],
-) -> Progress
-    requires prepared { Prepared bytes.now b scratch.now }
-    requires indexed { Indexed (model_of bytes.now) index.now }
-    requires arguments { Arguments (model_of bytes.now) f args.now }
-    requires waiting { Waiting (model_of bytes.now) frames.old values.old 0 }
-    ensures { let M = model_of bytes.now in ProgressTo M frames.new values.new result (start M f args.now) }
+) -> Result<usize, Ending>
+    requires arguments { Arguments (model indexed.now.prepared.bundle) f args.now }
+    requires waiting { Waiting (model indexed.now.prepared.bundle) frames.old.numbers frames.old.values 0 }
+    ensures { let M = model indexed.now.prepared.bundle in ResumesTo M frames.new.numbers frames.new.values result (start M f args.now).next }
 {
-    match call(bytes, b, scratch, index, frames, values, f, args, 0) {
-        Stepped::Made(top) => return_values(bytes, b, frames, values, top, 0),
-        Stepped::Failed(ending) => Progress::Ended(ending, 0),
-    }
+    let top = call(indexed, frames, f, args, 0)?;
+    return_values(&indexed.prepared.bundle, frames, top)
 }
 
-// One pace: the next instruction of the frame on top, which is a step unless it fails, with the ends of bodies that follow.
+// One pace: the next instruction of the frame on top, which is a step unless it fails, with the ends of bodies that follow. It leaves a frame on top and
+// is the step after `steps` others, or ends the run.
 fn pace(
-    bytes: &[u8],
-    b: Bundle,
-    scratch: &[u8],
-    index: &[usize],
-    frames: &mut [usize],
-    values: &mut [u8],
+    indexed: &IndexedBundle<'_>,
+    frames: &mut Frames,
     top: usize,
     steps: u32,
-) -> Progress
-    requires prepared { Prepared bytes.now b scratch.now }
-    requires indexed { Indexed (model_of bytes.now) index.now }
-    requires going { Going (model_of bytes.now) frames.old values.old top }
+) -> Result<usize, Outcome>
+    requires going { Going (model indexed.now.prepared.bundle) frames.old.numbers frames.old.values top }
     requires steps_bound { steps < 4294967295 }
-    ensures { let M = model_of bytes.now in ProgressTo M frames.new values.new result (pace_from M (resumed M frames.old values.old top) steps) }
+    ensures { let M = model indexed.now.prepared.bundle in ProgressTo M frames.new.numbers frames.new.values (steps + 1) result (pace_from M (resumed M frames.old.numbers frames.old.values top) steps) }
 {
-    match step(bytes, b, scratch, index, frames, values, top) {
-        Stepped::Made(next) => return_values(bytes, b, frames, values, next, steps + 1),
-        Stepped::Failed(ending) => Progress::Ended(ending, steps),
+    match step(indexed, frames, top) {
+        Ok(next) => {
+            let steps = steps + 1;
+            return_values(&indexed.prepared.bundle, frames, next).map_err(|ending| Outcome {
+                ending,
+                steps,
+            })
+        }
+        Err(ending) => Err(Outcome { ending, steps }),
     }
 }
 
 // Paces from the frame on top, at most `count` of them.
-fn run_from(
-    bytes: &[u8],
-    b: Bundle,
-    scratch: &[u8],
-    index: &[usize],
-    frames: &mut [usize],
-    values: &mut [u8],
-    top: usize,
-    count: u32,
-) -> Outcome
-    requires prepared { Prepared bytes.now b scratch.now }
-    requires indexed { Indexed (model_of bytes.now) index.now }
-    requires going { Going (model_of bytes.now) frames.old values.old top }
-    ensures { let M = model_of bytes.now in outcome_of result ≡ (run_from M count (progress (resumed M frames.old values.old top) 0)).outcome }
+fn run_from(indexed: &IndexedBundle<'_>, frames: &mut Frames, top: usize, count: u32) -> Outcome
+    requires going { Going (model indexed.now.prepared.bundle) frames.old.numbers frames.old.values top }
+    ensures { let M = model indexed.now.prepared.bundle in outcome_of result ≡ (run_from M count (progress (resumed M frames.old.numbers frames.old.values top) 0)).outcome }
 {
     let mut k = top;
-    let mut steps: u32 = 0;
-    loop {
-        if steps == count {
-            let ending = Ending::Spent;
-            return Outcome { ending, steps };
+    for steps in 0..count {
+        match pace(indexed, frames, k, steps) {
+            Ok(next) => k = next,
+            Err(outcome) => return outcome,
         }
-        match pace(bytes, b, scratch, index, frames, values, k, steps) {
-            Progress::Goes(next, made) => {
-                k = next;
-                steps = made;
-            }
-            Progress::Ended(ending, made) => {
-                return Outcome {
-                    ending,
-                    steps: made,
-                };
-            }
-        }
+    }
+    Outcome {
+        ending: Ending::Spent,
+        steps: count,
     }
 }
 
-// Frames and values to run on, before any is used.
-fn no_frames() -> [usize; FRAME_NUMBERS * MAX_FRAMES]
-    ensures { frame_numbers * max_frames ≡ length result }
-{
-    [0; FRAME_NUMBERS * MAX_FRAMES]
-}
-
-fn no_values() -> [u8; FRAME_BYTES * MAX_FRAMES]
-    ensures { frame_bytes * max_frames ≡ length result }
-{
-    [0; FRAME_BYTES * MAX_FRAMES]
-}
-
 // A run of one send, with no more steps than the count.
-pub fn run(bytes: &[u8], b: Bundle, scratch: &[u8], f: usize, args: &[u8], count: u32) -> Outcome
-    requires prepared { Prepared bytes.now b scratch.now }
-    requires arguments { Arguments (model_of bytes.now) f args.now }
-    ensures { let M = model_of bytes.now in outcome_of result ≡ (run M f args.now count).outcome }
+pub fn run(prepared: &PreparedBundle<'_>, f: usize, args: &[u8], count: u32) -> Outcome
+    requires { Arguments (model prepared.now.bundle) f args.now }
+    ensures { let M = model prepared.now.bundle in outcome_of result ≡ (run M f args.now count).outcome }
 {
-    let index = index_methods(bytes, b);
-    let mut frames = no_frames();
-    let mut values = no_values();
-    match start(bytes, b, scratch, &index, &mut frames, &mut values, f, args) {
-        Progress::Goes(top, _) => run_from(
-            bytes,
-            b,
-            scratch,
-            &index,
-            &mut frames,
-            &mut values,
-            top,
-            count,
-        ),
-        Progress::Ended(ending, steps) => Outcome { ending, steps },
+    let indexed = IndexedBundle::new(prepared);
+    let mut frames = Frames::new();
+    match start(&indexed, &mut frames, f, args) {
+        Ok(top) => run_from(&indexed, &mut frames, top, count),
+        Err(ending) => Outcome { ending, steps: 0 },
     }
 }

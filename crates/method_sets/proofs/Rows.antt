@@ -1,14 +1,14 @@
 -- Rows of a table of sets: the sets of a place with one word more, the table with one place more, and what a table tells.
 -- Assumes nothing.
-use Prim.Native.Nat.{ℕ, ◌+◌, ◌*◌, ◌/◌, ◌%◌, ◌<◌, ◌≤◌}
+use Prim.Native.Nat.{ℕ, ◌+◌, ◌*◌, ◌/◌, ◌%◌, ◌<◌}
 use native.Mathlib.Decide.{dec_lt}
 use native.Mathlib.Omega.{arith}
 use mathlib.Core.Path.{◌≡◌, refl, sym, ap, ◌∙◌}
 use mathlib.Core.Bool.{Bool, ◌&&◌, and-false}
 use mathlib.Core.List.{List}
 use lib.Dec.{eqb, ltb}
-use lib.ListN.{length, get_or, set, take, replicate, length-set, length-replicate}
-use lib.Seq.{length-take-le, get_or-take, get_or-set_same, get_or-set_other}
+use lib.ListN.{length, get_or, set, replicate, length-set, length-replicate}
+use lib.Seq.{get_or-set_same, get_or-set_other}
 use borrow.Author.Count.{below_more}
 use borrow.Author.Tests.{ltb-true, lt-ltb}
 use Rattle.rules.specs.Layout.{places, max_classes}
@@ -24,7 +24,7 @@ use Rattle.layout.proofs.Opened.{counts_of, placed_of}
 use Rattle.subclasses.specs.Matrix.{Filled, filled}
 use Rattle.subclasses.specs.Places.{InMatrix}
 use Rattle.subclasses.specs.Prepared.{Prepared}
-use Rattle.method_sets.specs.Sets.{set_words, table_words, row_at, SetAt, WordOf, class_of, method_at, method_of, method_above, column_above, Column, Rows, TabledTo, Tabled}
+use Rattle.method_sets.specs.Sets.{set_words, table_words, row_at, SetAt, WordOf, class_of, method_at, method_of, method_above, column_above, InOrder, Rows, TabledTo, Tabled}
 use Rattle.method_sets.proofs.Stored.{zeros}
 use Rattle.method_sets.proofs.Words.{masked}
 
@@ -48,39 +48,26 @@ module _ {scratch column : List ℕ} {place : ℕ} where
       Told : ℕ → Type 0
       Told w = WordOf (column_above scratch column (w / set_words)) (64 * (w % set_words)) (get_or (set mid (row_at place 0 + n) bits) (row_at place 0 + w) 0)
 
--- A column of an opened bundle's methods: it has room for them, and its part for them has that length.
-module _ {b : List ℕ} {t : Bundle} {stated : Bool} {order column : List ℕ} {place : ℕ} (o : Opened b t) (q : Column stated (model_of b) order place column) where
-  pub column_room : t.methods ≤ length column
-  column_room = omega (arith, q.long, (placed_of o).methods_limit)
+-- a class is that of the method at a position of the order
+abbrev pub OfMethod : Bool → Model → List ℕ → ℕ → ℕ → ℕ → Type 0
+OfMethod stated M order place i k = (k ≡ class_of stated M (method_at order i) place) × (k < M.classes)
 
-  pub column_long : length (take t.methods column) ≡ t.methods
-  column_long = length-take-le t.methods column column_room
-
-  -- its numbers are the classes of the methods in their order
-  column_class : (i : ℕ) → i < t.methods
-      → (get_or (take t.methods column) i 0 ≡ class_of stated (model_of b) (method_at order i) place) × (get_or (take t.methods column) i 0 < t.classes)
-  column_class i h =
-      let counts = counts_of o in
-      let at = get_or-take t.methods column i 0 h in
-      let here = q.classes i (omega arith) in
-      (at ∙ here.0, omega (arith, here.1))
-
-  -- which the matrix has
-  pub column_classes : InMatrix (take t.methods column)
-  column_classes i h = omega (arith, (column_class i (omega (arith, column_long))).1, (placed_of o).classes_limit)
+-- A column of an opened bundle's methods.
+module _ {b : List ℕ} {t : Bundle} {stated : Bool} {order column : List ℕ} {place : ℕ} (o : Opened b t) (q : InOrder stated (model_of b) order place column) where
+  -- its numbers are classes, which the matrix has
+  pub column_classes : InMatrix column
+  column_classes i h = omega (arith, q.long, (q.classes i (omega (arith, q.long))).1, (counts_of o).classes, (placed_of o).classes_limit)
 
   -- by the entries of the bundle's matrix the classes above a number are those that it is under as a class
   column_above_lem : {s : List ℕ} → Filled (model_of b) s → (k i : ℕ) → k < max_classes
-      → column_above s (take t.methods column) k i ≡ method_above stated (model_of b) order place k i
+      → column_above s column k i ≡ method_above stated (model_of b) order place k i
   unfolding column_above method_above
   column_above_lem {s} (filled long entries) k i h =
       let M = model_of b in
-      let col = take t.methods column in
-      let count : length col ≡ M.methods = omega (arith, column_long, (counts_of o).methods) in
-      rw count (masked (ltb i M.methods) (entry_at s k (get_or col i 0)) (class_under M k (class_of stated M (method_at order i) place))
+      rw q.long (masked (ltb i M.methods) (entry_at s k (get_or column i 0)) (class_under M k (class_of stated M (method_at order i) place))
       (λ e.
-      let (same, bound) = column_class i (omega (arith, ltb-true i M.methods e, (counts_of o).methods)) in
-      entries k (get_or col i 0) h (omega (arith, bound, (placed_of o).classes_limit)) ∙ ap (class_under M k) same))
+      let (same, bound) = q.classes i (ltb-true i M.methods e) in
+      entries k (get_or column i 0) h (omega (arith, bound, (counts_of o).classes, (placed_of o).classes_limit)) ∙ ap (class_under M k) same))
 
 -- The sets of no place, and of one more: behind the rows of the classes the words are still 0.
 pub tabled_none : (stated : Bool) (M : Model) (order : List ℕ) → TabledTo stated M order (replicate table_words 0) 0
@@ -88,8 +75,8 @@ tabled_none stated M order =
     record { long = length-replicate {A = ℕ} table_words 0; told = λ place k h. absurd (omega arith); rest = λ w h. zeros table_words w }
 
 pub tabled_more : {b : List ℕ} {t : Bundle} {stated : Bool} {order column s old new : List ℕ} {place : ℕ} → Prepared b t s
-    → Column stated (model_of b) order place column → TabledTo stated (model_of b) order old place
-    → Rows s (take t.methods column) place (set_words * t.classes) old new → TabledTo stated (model_of b) order new (place + 1)
+    → InOrder stated (model_of b) order place column → TabledTo stated (model_of b) order old place
+    → Rows s column place (set_words * t.classes) old new → TabledTo stated (model_of b) order new (place + 1)
 unfolding in_set method_above
 tabled_more {b} {t} {stated} {order} {column} {s} {old} {new} {place} p q low r =
     record {

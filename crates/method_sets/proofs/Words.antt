@@ -10,7 +10,7 @@ use mathlib.Core.Bool.{Bool, true, false, ◌&&◌}
 use mathlib.Core.List.{List}
 use lib.Bits.{bit_and, and_le_l}
 use lib.Count.{under, count_trailing_zeros, trailing_le}
-use lib.Pow.{pow_pos, pow_mono}
+use lib.Pow.{pow_pos}
 use lib.Dec.{eqb}
 use lib.ListN.{get_or}
 use borrow.Author.Tests.{eqb-true, eq-eqb}
@@ -39,14 +39,6 @@ module _ {test : ℕ → Bool} {n start i : ℕ} where
       }
 
   module _ {bits : ℕ} (p : PackedFrom test n start i bits) where
-    pub packed_all : i ≤ start → WordOf test start bits
-    packed_all h j l =
-        let e : i ≡ start = omega (arith, p.low) in
-        rw e at (p.told j (omega arith))
-
-    pub packed_room : start < i → bits < 2 ^ 63
-    packed_room h = omega (arith, p.below, pow_mono {i = start + 64 - i} {j = 63} (omega arith))
-
     pub packed_next : start < i → (t : Bool) → t ≡ test (i - 1) → PackedFrom test n start (i - 1) (bits * 2 + bit t)
     packed_next h t e =
         let d : start + 64 - (i - 1) ≡ suc (start + 64 - i) = omega (arith, p.high) in

@@ -1,6 +1,6 @@
 -- Sets of methods as words of bits, by the positions of the methods in an order, and tables of such sets.
 -- Assumes nothing.
-use Rattle.std.specs.Prelude.{ℕ, ◌+◌, ◌-◌, ◌*◌, ◌/◌, ◌%◌, ◌<◌, ◌≤◌, ◌≡◌, Bool, true, false, ◌&&◌, List, eqb, ltb, length, get_or}
+use Rattle.std.specs.Prelude.{ℕ, ◌+◌, ◌-◌, ◌*◌, ◌/◌, ◌%◌, ◌<◌, ◌≤◌, ◌≡◌, Bool, true, false, ◌&&◌, List, eqb, ltb, length, get_or, Option, Some, None}
 use Rattle.rules.specs.Bounded.{sum}
 use Rattle.rules.specs.Layout.{places, max_classes, max_methods}
 use Rattle.rules.specs.Model.{Model}
@@ -47,6 +47,11 @@ pub record First (set : List ℕ) (r : ℕ) : Type 0 where
   pub member : r < max_methods → in_set set 0 r ≡ true
   pub before : (i : ℕ) → i < r → in_set set 0 i ≡ false
 
+-- as an option
+abbrev pub FirstIn : List ℕ → Option ℕ → Type 0
+FirstIn set None = First set max_methods
+FirstIn set (Some r) = (r < max_methods) × First set r
+
 -- A method with its weight above its number: the sum of its specialisers.
 unfoldable pub weighed : Model → ℕ → ℕ
 weighed M m = sum (λ p. get_or (M.specialisers m) p 0) places * max_methods + m
@@ -89,8 +94,8 @@ class_of true M m place = get_or (M.declared m) place 0
 class_of false M m place = get_or (M.specialisers m) place 0
 
 -- those of all methods, in their order
-pub record Column (stated : Bool) (M : Model) (order : List ℕ) (place : ℕ) (column : List ℕ) : Type 0 where
-  pub long : length column ≡ max_methods
+pub record InOrder (stated : Bool) (M : Model) (order : List ℕ) (place : ℕ) (column : List ℕ) : Type 0 where
+  pub long : length column ≡ M.methods
   pub classes : (i : ℕ) → i < M.methods → (get_or column i 0 ≡ class_of stated M (method_at order i) place) × (get_or column i 0 < M.classes)
 
 -- a column has a class at the position, which by the entries of a scratch is above class k

@@ -2,7 +2,7 @@
 ghost use Rattle.std.specs.Prelude.{◌≡◌, ◌&&◌, ◌+◌, ◌*◌, ◌<◌, ◌≤◌, ◌^◌, length};
 ghost use Rattle.rules.specs.Layout.{places, max_classes, max_methods};
 ghost use Rattle.rules.specs.Bits.{bit, in_set};
-ghost use Rattle.method_sets.specs.Sets.{set_words, table_words, row_at, SetAt, Decides, SamePositions, Within, SameWithin, First};
+ghost use Rattle.method_sets.specs.Sets.{set_words, table_words, row_at, SetAt, Decides, SamePositions, Within, SameWithin, FirstIn};
 
 use layout::bundle::Bundle;
 
@@ -30,10 +30,7 @@ pub(crate) fn doubled(bits: u64, low: bool) -> u64
     requires { bits < 2 ^ 63 }
     ensures { result ≡ bits * 2 + bit low }
 {
-    if low {
-        return bits * 2 + 1;
-    }
-    bits * 2
+    bits * 2 + u64::from(low)
 }
 
 // Where the positions of a word end that begin at one and are below n.
@@ -41,13 +38,7 @@ pub(crate) fn word_end(start: usize, n: usize) -> usize
     requires { start < max_methods }
     ensures { (start ≤ result) × (result ≤ start + 64) × (start < result → result ≤ n) × (result < start + 64 → n ≤ result) }
 {
-    if n <= start {
-        return start;
-    }
-    if n < start + WORD_BITS {
-        return n;
-    }
-    start + WORD_BITS
+    n.clamp(start, start + WORD_BITS)
 }
 
 // The positions of a set that are also in the set of a table that begins at a word.
@@ -56,10 +47,8 @@ pub fn both(set: &[u64; WORDS], table: &[u64; TABLE_WORDS], at: usize) -> [u64; 
     ensures { SetAt result 0 (λ i. in_set set.now 0 i && in_set table.now at i) }
 {
     let mut part = [0u64; WORDS];
-    let mut w = 0;
-    while w < WORDS {
+    for w in 0..WORDS {
         part[w] = set[w] & table[at + w];
-        w += 1;
     }
     part
 }
@@ -71,12 +60,10 @@ fn same_positions(set: &[u64], xs: &[u64], a: usize, ys: &[u64], b: usize) -> bo
     requires set_words_in_bounds_3 { (b + set_words ≤ length ys.now) × (b + set_words ≤ table_words) }
     ensures { Decides result (SamePositions set.now xs.now a ys.now b) }
 {
-    let mut w = 0;
-    while w < WORDS {
+    for w in 0..WORDS {
         if set[w] & xs[a + w] != set[w] & ys[b + w] {
             return false;
         }
-        w += 1;
     }
     true
 }
@@ -98,17 +85,15 @@ pub fn same_within(set: &[u64; WORDS], table: &[u64; TABLE_WORDS], a: usize, b: 
     same_positions(set, table, a, table, b)
 }
 
-// The first position of a set, or the limit of methods where it is empty.
-pub fn first_position(set: &[u64; WORDS]) -> usize
-    ensures { First set.now result }
+// The first position of a set, if it has one.
+pub fn first_position(set: &[u64; WORDS]) -> Option<usize>
+    ensures { FirstIn set.now result }
 {
-    let mut w = 0;
-    while w < WORDS {
-        let bit = u64::trailing_zeros(set[w]) as usize;
+    for w in 0..WORDS {
+        let bit = set[w].trailing_zeros() as usize;
         if bit < WORD_BITS {
-            return WORD_BITS * w + bit;
+            return Some(WORD_BITS * w + bit);
         }
-        w += 1;
     }
-    Bundle::METHODS
+    None
 }

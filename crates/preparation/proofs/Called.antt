@@ -1,7 +1,8 @@
 -- What a call comes to: refused before its own rules, or ready for them.
 -- Assumes nothing.
 use Prim.Native.Nat.{ℕ, ◌≤◌, ◌<◌}
-use mathlib.Core.Path.{◌≡◌, refl, sym, ◌∙◌}
+use Rattle.std.specs.Prelude.{Ok, Err}
+use mathlib.Core.Path.{◌≡◌, refl, sym, ap, ◌∙◌}
 use mathlib.Core.Bool.{Bool, true, false}
 use mathlib.Core.List.{List, []}
 use lib.Dec.{leb}
@@ -12,24 +13,22 @@ use Rattle.rules.specs.Layout.{Answer, gives, refuses, opening, require}
 use Rattle.rules.specs.Model.{Model, model_of}
 use Rattle.rules.specs.Calls.{on_opening, when_open, with_scratch, overwrite, scratch_on, scratch_after}
 use Rattle.rules.specs.Scratch.{matrix_byte, scratch_bytes}
-use Rattle.layout.specs.Opened as layout-opened
 use Rattle.layout.specs.declared.bundle.Bundle.{Bundle}
+use Rattle.layout.specs.Bundles.{model}
+use Rattle.layout.specs.declared.open.OpenBundle.{OpenBundle}
 use Rattle.answers.specs.declared.opening.LayoutFinding.{LayoutFinding}
-use Rattle.answers.specs.declared.opening.Opening.TheVariants as answer
+use Rattle.answers.specs.declared.refusal.Refusal.{Refusal}
 use Rattle.answers.specs.Opening.{layout_number, layout_values, Opens}
-use Rattle.subclasses.specs.Prepared.{Prepared}
-use Rattle.subclasses.proofs.Entry.{filled_whole}
-use Rattle.preparation.specs.declared.begin.Beginning.{Beginning}
-use Rattle.preparation.specs.declared.begin.Beginning.TheVariants.{Ready}
-use Rattle.preparation.specs.Begins.{beginning_said, begun, Begins}
+use Rattle.answers.specs.Refusals.{refusal_said}
+use Rattle.preparation.specs.Begins.{begun, Begins}
 
 -- A call that takes no scratch, on a bundle that opens and on one that does not.
 module _ {A : Type 0} (b : List ℕ) (call : Model → Answer A) where
-  pub not_opened : (f : LayoutFinding) → Opens b (answer.Refused f) → when_open b call ≡ refuses (layout_number f) (layout_values f)
+  pub not_opened : (f : LayoutFinding) → Opens b (Err f) → when_open b call ≡ refuses (layout_number f) (layout_values f)
   unfolding when_open on_opening
   not_opened f o = rw (sym o.answer)
 
-  pub when_opened : {t : Bundle} → Opens b (answer.Opened t) → when_open b call ≡ call (model_of b)
+  pub when_opened : {t : Bundle} → Opens b (Ok t) → when_open b call ≡ call (model_of b)
   unfolding when_open on_opening
   when_opened o = rw (sym o.answer)
 
@@ -69,25 +68,19 @@ begun_after {A} b n call = go (opening b)
     go (refuses number values) = refl
 
 -- The two laws of an entry point.
-module _ {b scratch left : List ℕ} {p : Beginning} (h : Begins b scratch left p) where
+module _ {b scratch left : List ℕ} where
   -- refused before its own rules
-  pub is_refused : {number : ℕ} {values : List ℕ} → beginning_said p ≡ refuses number values → {A : Type 0} (call : Model → Answer A)
-      → with_scratch b (length scratch) call ≡ refuses number values
-  is_refused e call = begun_after b (length scratch) call ∙ rw (sym h.said, e)
+  pub is_refused : {r : Refusal} → Begins b scratch left (Err r) → {A : Type 0} (call : Model → Answer A) → with_scratch b (length scratch) call ≡ refusal_said r
+  is_refused h call = begun_after b (length scratch) call ∙ rw (sym h.said)
 
-  pub refused_early : {number : ℕ} {values : List ℕ} → beginning_said p ≡ refuses number values → {A : Type 0} (call : Model → Answer A)
-      → (refuses number values ≡ with_scratch b (length scratch) call) × (left ≡ scratch_after b scratch)
-  refused_early e call = (sym (is_refused e call), h.filled)
+  pub refused_early : {r : Refusal} → Begins b scratch left (Err r) → {A : Type 0} (call : Model → Answer A)
+      → (refusal_said r ≡ with_scratch b (length scratch) call) × (left ≡ scratch_after b scratch)
+  refused_early h call = (sym (is_refused h call), h.filled)
 
   -- ready for them
-  pub is_ready : {t : Bundle} → p ≡ Ready t → {A : Type 0} (call : Model → Answer A) → with_scratch b (length scratch) call ≡ call (model_of b)
-  is_ready e call = begun_after b (length scratch) call ∙ rw (sym h.said, e)
+  pub is_ready : {o : OpenBundle} → Begins b scratch left (Ok o) → {A : Type 0} (call : Model → Answer A) → with_scratch b (length scratch) call ≡ call (model o)
+  is_ready h call = begun_after b (length scratch) call ∙ rw (sym h.said) (ap (λ x. call (model_of x)) (sym h.bytes))
 
-  pub ready : {t : Bundle} → p ≡ Ready t → {A : Type 0} (call : Model → Answer A) {answer : Answer A} → answer ≡ call (model_of b)
+  pub ready : {o : OpenBundle} → Begins b scratch left (Ok o) → {A : Type 0} (call : Model → Answer A) {answer : Answer A} → answer ≡ call (model o)
       → (answer ≡ with_scratch b (length scratch) call) × (left ≡ scratch_after b scratch)
-  ready e call q = (q ∙ sym (is_ready e call), h.filled)
-
--- what a call has that is ready
-pub prepared_by : (b scratch : List ℕ) {t : Bundle} → layout-opened.Opened b t → scratch_bytes ≤ length scratch
-    → Prepared b t (overwrite scratch_bytes (matrix_byte (model_of b)) scratch)
-prepared_by b scratch o h = record { opened = o; filled = filled_whole (model_of b) scratch h }
+  ready h call q = (q ∙ sym (is_ready h call), h.filled)

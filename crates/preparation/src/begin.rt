@@ -1,30 +1,20 @@
 // The bundle is opened, enough scratch is asked for, and the subclass matrix is filled.
 ghost use Rattle.preparation.specs.Begins.{Begins};
 
-use answers::opening::{LayoutFinding, Opening};
+use answers::refusal::Refusal;
 use bundle_rules::opening::open;
-use layout::bundle::Bundle;
+use layout::open::OpenBundle;
 use subclasses::matrix::{BYTES, fill};
 
-// The opened bundle, with its matrix in the scratch; 1 to 9; or 19.
-#[derive(Clone, Copy)]
-pub enum Beginning {
-    Ready(Bundle),
-    Unopened(LayoutFinding),
-    ShortScratch,
-}
-
-// A refusal leaves the scratch as it was.
-pub fn begin(bundle: &[u8], scratch: &mut [u8]) -> Beginning
+// The opened bundle, with its matrix in the scratch; or 1 to 9, or 19. A refusal leaves the scratch as it was. The prepared bundle is the caller's to make: of
+// a scratch that goes out with the answer, the contract could not say what it holds afterwards.
+pub fn begin<'a>(bundle: &'a [u8], scratch: &mut [u8]) -> Result<OpenBundle<'a>, Refusal>
     ensures { Begins bundle.now scratch.old scratch.new result }
 {
-    let opening = open(bundle);
-    let Opening::Opened(b) = opening else {
-        return Beginning::Unopened(opening.finding());
-    };
+    let bundle = open(bundle)?;
     if scratch.len() < BYTES {
-        return Beginning::ShortScratch;
+        return Err(Refusal::Scratch);
     }
-    fill(bundle, b, scratch);
-    Beginning::Ready(b)
+    fill(&bundle, scratch);
+    Ok(bundle)
 }

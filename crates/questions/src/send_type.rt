@@ -1,49 +1,49 @@
 // The static type of a send.
 ghost use Rattle.std.specs.Prelude.{◌≡◌, length};
-ghost use Rattle.rules.specs.Model.{model_of};
 ghost use Rattle.rules.specs.Calls.{send_type_in, row_on};
-ghost use Rattle.subclasses.specs.Prepared.{Prepared};
+ghost use Rattle.layout.specs.Bundles.{model};
 ghost use Rattle.answers.specs.Send.{tuple_of};
+ghost use Rattle.questions.specs.declared.send_type.SendTypeError.TheVariants.{Refused};
 ghost use Rattle.questions.specs.Said.{blank, send_type_said};
 
 use answers::refusal::Refusal;
 use answers::send::Send;
-use layout::bundle::Bundle;
 use sends::send::classes_of;
+use subclasses::prepared::PreparedBundle;
 use typing::row::ROW_BYTES;
 use typing::send::send_type;
 
-// The type is in the row; 16, no signature licenses the send; or a refusal.
+// 16, no signature licenses the send; or a refusal.
 #[derive(Clone, Copy)]
-pub enum SendTypeAnswer {
-    Typed,
+pub enum SendTypeError {
     Unlicensed,
     Refused(Refusal),
 }
 
+impl From<Refusal> for SendTypeError {
+    ghost from_gives = { λ refusal e. e ≡ Refused refusal };
+
+    fn from(refusal: Refusal) -> SendTypeError {
+        SendTypeError::Refused(refusal)
+    }
+}
+
 // The static type of a send with arguments of these classes, abstract ones too, into the lent row.
 pub fn send_type_in(
-    bundle: &[u8],
-    b: Bundle,
-    scratch: &[u8],
+    prepared: &PreparedBundle<'_>,
     row: &mut [u8],
     send: Send,
-) -> SendTypeAnswer
-    requires { Prepared bundle.now b scratch.now }
-    ensures result_value { send_type_said result ≡ blank (send_type_in (length row.old) send.function (tuple_of send) (model_of bundle.now)) }
-    ensures row_after { row.new ≡ row_on (send_type_in (length row.old) send.function (tuple_of send) (model_of bundle.now)) (model_of bundle.now) row.old }
+) -> Result<(), SendTypeError>
+    ensures result_value { send_type_said result ≡ blank (send_type_in (length row.old) send.function (tuple_of send) (model prepared.now.bundle)) }
+    ensures row_after { let M = model prepared.now.bundle in row.new ≡ row_on (send_type_in (length row.old) send.function (tuple_of send) M) M row.old }
 {
     if row.len() < ROW_BYTES {
-        return SendTypeAnswer::Refused(Refusal::Row);
+        return Err(SendTypeError::Refused(Refusal::Row));
     }
-    let args = classes_of(bundle, b, send);
-    if !args.is_send {
-        return SendTypeAnswer::Refused(Refusal::Absent);
+    let args = classes_of(&prepared.bundle, send).ok_or(Refusal::Absent)?;
+    if send_type(prepared, send.function, args.as_slice(), row) {
+        Ok(())
+    } else {
+        Err(SendTypeError::Unlicensed)
     }
-    let n = args.count;
-    let classes = args.classes;
-    if send_type(bundle, b, scratch, send.function, &classes[..n], row) {
-        return SendTypeAnswer::Typed;
-    }
-    SendTypeAnswer::Unlicensed
 }

@@ -1,14 +1,14 @@
 -- The body reader: what it gives at a position of a method's code, where it stands afterwards, and the law that it gives a method's instructions.
 -- Assumes nothing.
 use Rattle.std.specs.Prelude.{ℕ, zero, suc, ◌+◌, ◌≡◌, Bool, true, false, List, [], ◌∷◌, ◌++◌, map, leb, length, replicate}
+use Rattle.std.specs.Prelude as read
 use Rattle.std.proofs.Math.Option.{Option, none, some}
 use Rattle.rules.specs.Layout.{gives}
 use Rattle.rules.specs.Model.{Instr, decode, model_of}
 use Rattle.rules.specs.Calls.{body_view_call}
 use Rattle.layout.specs.Instruction.{instr}
+use Rattle.layout.specs.declared.instruction.Instruction.{Instruction}
 use Rattle.reader.specs.declared.BodyReader.{BodyReader}
-use Rattle.reader.specs.declared.Reading as reading-type
-use Rattle.reader.specs.declared.Reading.TheVariants as reading
 
 -- element n of a list, or none past its end
 unfoldable pub nth : {A : Type 0} → List A → ℕ → Option A
@@ -44,9 +44,9 @@ place_after code at = past (reading_at code at) at
 abbrev pub advanced : BodyReader → BodyReader
 advanced r = record { code = r.code; at = place_after r.code.now r.at }
 
-abbrev pub reading_said : reading-type.Reading → Option Instr
-reading_said (reading.Instruction i) = some (instr i)
-reading_said reading.End = none
+abbrev pub reading_said : read.Option Instruction → Option Instr
+reading_said (read.Some i) = some (instr i)
+reading_said read.None = none
 
 -- what a reader gives in so many readings, one after another
 unfoldable pub readings : BodyReader → ℕ → List (Option Instr)

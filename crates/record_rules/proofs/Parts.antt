@@ -1,22 +1,14 @@
--- What parts of the rules say by themselves: the parents of class 0 and of others, the body of a method.
+-- What a method's rule says by itself of its function and its body.
 -- Assumes nothing.
 use Prim.Native.Nat.{ℕ, ◌+◌, ◌*◌, ◌/◌, ◌%◌, ◌≤◌, ◌<◌}
 use native.Mathlib.Omega.{arith}
-use mathlib.Core.Path.{◌≡◌, refl}
-use mathlib.Core.Bool.{Bool, true, false, not, beq}
+use mathlib.Core.Path.{◌≡◌}
+use mathlib.Core.Bool.{true}
 use mathlib.Core.List.{List}
 use borrow.Author.Tests.{ltb-true, eqb-true}
 use Rattle.rules.specs.Layout.{extent, code_section, function_of, function_count, body_offset, body_length, method_rule}
 use Rattle.rules.proofs.Lists.{and_left, and_right}
 use Rattle.rules.proofs.Places.{sequence_fits, method_sequence}
-
-pub beq_true : (t : Bool) → beq true t ≡ t
-beq_true true = refl
-beq_true false = refl
-
-pub beq_false : (t : Bool) → not (beq false t) ≡ t
-beq_false true = refl
-beq_false false = refl
 
 module _ (b : List ℕ) (m : ℕ) (rule : method_rule b m ≡ true) where
   pub method_function : function_of b m < function_count b

@@ -3,27 +3,20 @@ ghost use Rattle.std.specs.Prelude.{◌≡◌, not, ◌+◌, ◌<◌, ◌≤◌,
 ghost use Rattle.rules.specs.Bounded.{sum};
 ghost use Rattle.rules.specs.Bytes.{part};
 ghost use Rattle.rules.specs.Layout.{list_length, class_rule};
-ghost use Rattle.layout.specs.Tables.{Placed};
 ghost use Rattle.record_rules.specs.Tests.{from, parent_rule, parents_rule};
 
 use crate::sequence::misplaced;
-use layout::bundle::Bundle;
 use layout::bytes::byte_at;
-use layout::record::{filler, kind, list_offset, parent_count};
+use layout::open::Records;
 
 // Whether parent i is not below class c, or not above the parent before it.
+#[tactic(auto, unfolding(crate::specs::Tests::parent_rule))]
 fn parent_breaks(bytes: &[u8], at: usize, c: usize, i: usize) -> bool
     requires { at + i < length bytes.now }
     ensures { result ≡ not (parent_rule (from bytes.now at) c i) }
 {
     let p = byte_at(bytes, at + i);
-    if c <= p {
-        return true;
-    }
-    if i == 0 {
-        return false;
-    }
-    p <= byte_at(bytes, at + (i - 1))
+    c <= p || i != 0 && p <= byte_at(bytes, at + (i - 1))
 }
 
 // Whether one of the parents from byte `at` on breaks the rule.
@@ -31,39 +24,27 @@ fn parents_break(bytes: &[u8], at: usize, size: usize, c: usize) -> bool
     requires { at + size ≤ length bytes.now }
     ensures { result ≡ not (parents_rule c (part bytes.now at size)) }
 {
-    let mut i = 0;
-    while i < size {
+    for i in 0..size {
         if parent_breaks(bytes, at, c, i) {
             return true;
         }
-        i += 1;
     }
     false
 }
 
 // Whether class c breaks its rule, where the lists before its own end at `before`.
-pub fn class_breaks(bytes: &[u8], b: Bundle, c: usize, before: usize) -> bool
-    requires placed { Placed bytes.now b }
-    requires c_lt_classes { c < b.classes }
-    requires before_value { before ≡ sum (list_length bytes.now) c }
-    ensures { result ≡ not (class_rule bytes.now c) }
+#[tactic(auto, unfolding(rules::specs::Layout::class_rule, rules::specs::Layout::parents_of))]
+pub fn class_breaks(records: &Records<'_>, c: usize, before: usize) -> bool
+    requires c_lt_classes { c < records.now.tables.classes }
+    requires before_value { before ≡ sum (list_length records.now.bytes.now) c }
+    ensures { result ≡ not (class_rule records.now.bytes.now c) }
 {
-    if 1 < kind(bytes, b, c) {
-        return true;
-    }
-    if filler(bytes, b, c) != 0 {
-        return true;
-    }
-    let start = list_offset(bytes, b, c);
-    let size = parent_count(bytes, b, c);
-    if misplaced(start, size, before, b.parent_len, b.classes, c) {
-        return true;
-    }
-    if parents_break(bytes, b.parent_at + start, size, c) {
-        return true;
-    }
-    if c == 0 {
-        return size != 0;
-    }
-    size == 0
+    let tables = &records.tables;
+    let start = records.list_offset(c);
+    let size = records.parent_count(c);
+    1 < records.kind(c)
+        || records.filler(c) != 0
+        || misplaced(start, size, before, tables.parent_len, tables.classes, c)
+        || parents_break(records.bytes, tables.parent_at + start, size, c)
+        || (c == 0) != (size == 0)
 }

@@ -1,16 +1,15 @@
 // The rule of a function record.
 ghost use Rattle.std.specs.Prelude.{◌≡◌, not, ◌<◌};
 ghost use Rattle.rules.specs.Layout.{function_rule};
-ghost use Rattle.layout.specs.Tables.{Placed};
 
 use layout::bundle::Bundle;
-use layout::record::arity;
+use layout::open::Records;
 
 // Whether function f has more arguments than there are places.
-pub fn function_breaks(bytes: &[u8], b: Bundle, f: usize) -> bool
-    requires placed { Placed bytes.now b }
-    requires f_lt_functions { f < b.functions }
-    ensures { result ≡ not (function_rule bytes.now f) }
+#[tactic(auto, unfolding(rules::specs::Layout::function_rule))]
+pub fn function_breaks(records: &Records<'_>, f: usize) -> bool
+    requires f_lt_functions { f < records.now.tables.functions }
+    ensures { result ≡ not (function_rule records.now.bytes.now f) }
 {
-    Bundle::PLACES < arity(bytes, b, f)
+    Bundle::PLACES < records.arity(f)
 }

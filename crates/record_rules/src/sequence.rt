@@ -3,6 +3,7 @@ ghost use Rattle.std.specs.Prelude.{◌≡◌, not, ◌<◌};
 ghost use Rattle.rules.specs.Layout.{in_sequence};
 
 // Whether record k of n has its list or body out of place: it begins where those before it end, lies within the section, and the last ends it.
+#[tactic(auto, unfolding(rules::specs::Layout::in_sequence))]
 pub(crate) fn misplaced(
     start: usize,
     size: usize,
@@ -16,14 +17,5 @@ pub(crate) fn misplaced(
     requires k_lt_n { k < n }
     ensures { result ≡ not (in_sequence start size before n end k) }
 {
-    if start != before {
-        return true;
-    }
-    if end < start + size {
-        return true;
-    }
-    if k + 1 < n {
-        return false;
-    }
-    start + size != end
+    start != before || end < start + size || n <= k + 1 && start + size != end
 }

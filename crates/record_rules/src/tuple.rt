@@ -7,13 +7,11 @@ use layout::bundle::Bundle;
 use layout::bytes::byte_at;
 
 // Whether a number keeps the rule of place i: it is a class where the place is used, one of the first n, and 0 elsewhere.
+#[tactic(auto, unfolding(rules::specs::Layout::place_rule))]
 pub fn fits(classes: usize, n: usize, i: usize, x: usize) -> bool
     ensures { result ≡ place_rule classes n i x }
 {
-    if i < n {
-        return x < classes;
-    }
-    x == 0
+    if i < n { x < classes } else { x == 0 }
 }
 
 // Whether one of the places from byte `at` on breaks the rule.
@@ -21,12 +19,10 @@ pub(crate) fn tuple_breaks(bytes: &[u8], at: usize, n: usize, classes: usize) ->
     requires { at + places ≤ length bytes.now }
     ensures { result ≡ not (tuple_rule classes n (part bytes.now at places)) }
 {
-    let mut i = 0;
-    while i < Bundle::PLACES {
+    for i in 0..Bundle::PLACES {
         if !fits(classes, n, i, byte_at(bytes, at + i)) {
             return true;
         }
-        i += 1;
     }
     false
 }

@@ -25,9 +25,6 @@ leb_not_ltb m n = go (ltb n m) refl
     go true e = rw e (lt-leb m n (ltb-true n m e))
     go false e = rw e (le-leb m n (ltb-false n m e))
 
-pub ltb_not_leb : (m n : ℕ) → ltb m n ≡ not (leb n m)
-ltb_not_leb m n = sym (ap not (leb_not_ltb n m) ∙ not-not (ltb m n))
-
 pub record Decides (t : Bool) (p : ℕ → Bool) (n : ℕ) : Type 0 where
   pub holds : ((i : ℕ) → i < n → p i ≡ true) → t ≡ true
   pub breaks : (i : ℕ) → i < n → p i ≡ false → t ≡ false

@@ -1,7 +1,6 @@
 -- Numbers in decimal: the cases of `digits`.
 -- Assumes nothing.
-use Prim.Native.Nat.{ℕ, zero, suc, ◌+◌, ◌-◌, ◌/◌, ◌%◌, ◌^◌, ◌≤◌, ◌<◌}
-use native.Mathlib.Nat.{pow-zero, pow-suc}
+use Prim.Native.Nat.{ℕ, zero, suc, ◌+◌, ◌-◌, ◌/◌, ◌%◌, ◌≤◌, ◌<◌}
 use native.Mathlib.Omega.{arith}
 use mathlib.Core.Path.{◌≡◌, refl}
 use mathlib.Core.List.{[], ◌∷◌, ◌++◌}
@@ -21,11 +20,3 @@ digits_more zero n h l = absurd (omega arith)
 digits_more (suc most) n h l =
     let e : suc most - 1 ≡ most = omega arith in
     rw (le-ltb n 10 l, e) refl
-
--- a number of more than one digit has room for one less without its last
-pub room_more : (most n : ℕ) → 10 ≤ n → n < 10 ^ most → (1 < most) × (n / 10 < 10 ^ (most - 1))
-room_more zero n l h = absurd (omega (arith, pow-zero 10))
-room_more (suc zero) n l h = absurd (omega (arith, pow-zero 10, pow-suc 10 0))
-room_more (suc (suc k)) n l h =
-    let e : suc (suc k) - 1 ≡ suc k = omega arith in
-    (omega arith, rw e (omega (arith, pow-suc 10 (suc k))))

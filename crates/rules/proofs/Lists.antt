@@ -285,19 +285,6 @@ module _ {A : Type 0} where
   pub any_take : (p : A → Bool) (xs : List A) (d : A) (i : ℕ) → i < length xs → any p (take (i + 1) xs) ≡ (any p (take i xs) || p (get_or xs i d))
   any_take p xs d i h = rw (add-one i, take-suc xs i d h) (any_snoc p (take i xs) (get_or xs i d))
 
-  -- what is kept of the first elements, with one more
-  pub keep_take_hit : (p : A → Bool) (xs : List A) (d : A) (i : ℕ) → i < length xs → p (get_or xs i d) ≡ true
-      → keep p (take (i + 1) xs) ≡ keep p (take i xs) ++ (get_or xs i d ∷ [])
-  unfolding keep
-  keep_take_hit p xs d i h e = rw (add-one i, take-suc xs i d h, keep_append) (ap (λ (l : List A). keep p (take i xs) ++ l) (keep_hit p (get_or xs i d) [] e))
-
-  pub keep_take_miss : (p : A → Bool) (xs : List A) (d : A) (i : ℕ) → i < length xs → p (get_or xs i d) ≡ false
-      → keep p (take (i + 1) xs) ≡ keep p (take i xs)
-  unfolding keep
-  keep_take_miss p xs d i h e =
-      rw (add-one i, take-suc xs i d h, keep_append)
-      (ap (λ (l : List A). keep p (take i xs) ++ l) (keep_miss p (get_or xs i d) [] e) ∙ append-nil (keep p (take i xs)))
-
 pub keep_upto_hit : (p : ℕ → Bool) (n : ℕ) → p n ≡ true → keep p (upto (n + 1)) ≡ keep p (upto n) ++ (n ∷ [])
 unfolding upto keep
 keep_upto_hit p n e = rw (add-one n, keep_append) (ap (λ (l : List ℕ). keep p (upto n) ++ l) (keep_hit p n [] e))

@@ -62,11 +62,6 @@ pub overwrite_agree : (n : ℕ) (f g : ℕ → ℕ) (old : List ℕ) → ((k : �
 unfolding overwrite
 overwrite_agree n f g old h = rw (map_agree f g (upto n) (λ k m. h k (upto_below n m)))
 
--- what is written over is gone
-pub overwrite_twice : (n : ℕ) (f g : ℕ → ℕ) (old : List ℕ) → overwrite n f (overwrite n g old) ≡ overwrite n f old
-unfolding overwrite
-overwrite_twice n f g old = rw (drop_at (map g (upto n)) (drop n old) n (map_upto g n))
-
 -- what is written at a place after what is written before it
 overwrite_append : (at n : ℕ) (f : ℕ → ℕ) (old : List ℕ)
     → take at (overwrite at f old) ++ overwrite n (λ j. f (at + j)) (drop at (overwrite at f old)) ≡ overwrite (at + n) f old

@@ -1,7 +1,6 @@
 -- A send as a caller passes it.
 -- Assumes nothing.
-use Rattle.std.specs.Prelude.{ℕ, ◌≤◌, ◌≡◌, List, length, replicate, take}
-use Rattle.rules.specs.Layout.{places}
+use Rattle.std.specs.Prelude.{ℕ, ◌≤◌, ◌≡◌, List, length, take}
 use Rattle.rules.specs.Model.{Model}
 use Rattle.rules.specs.Calls.{used}
 use Rattle.subclasses.specs.Places.{Arguments}
@@ -12,7 +11,3 @@ pub record Passes (M : Model) (f : ℕ) (tuple : List ℕ) (n : ℕ) (classes : 
   pub within : n ≤ length classes
   pub same : take n classes ≡ used M f tuple
   pub arguments : Arguments M f (take n classes)
-
--- nothing is passed
-abbrev pub PassesNone : ℕ → List ℕ → Type 0
-PassesNone n classes = (n ≡ 0) × (classes ≡ replicate places 0)

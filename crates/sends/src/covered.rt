@@ -1,55 +1,43 @@
 // Whether signatures cover a send.
 ghost use Rattle.std.specs.Prelude.{◌≡◌, ◌<◌};
-ghost use Rattle.rules.specs.Model.{model_of};
 ghost use Rattle.rules.specs.Coverage.{covers, covers_send, is_covered};
-ghost use Rattle.subclasses.specs.Prepared.{Prepared};
+ghost use Rattle.layout.specs.Bundles.{model};
 ghost use Rattle.subclasses.specs.Places.{Arguments};
 
-use layout::bundle::Bundle;
-use layout::field::sig_function;
-use layout::tuple::signature_classes;
-use subclasses::places::each_under;
+use subclasses::prepared::PreparedBundle;
 
 // Whether the signature covers argument classes of its function.
-pub fn covers(bundle: &[u8], b: Bundle, scratch: &[u8], signature: usize, args: &[u8]) -> bool
-    requires prepared { Prepared bundle.now b scratch.now }
-    requires signature_lt_signatures { signature < b.signatures }
-    requires arguments { Arguments (model_of bundle.now) ((model_of bundle.now).sig_function signature) args.now }
-    ensures { result ≡ covers (model_of bundle.now) signature args.now }
+#[tactic(auto, unfolding(rules::specs::Coverage::covers))]
+pub fn covers(prepared: &PreparedBundle<'_>, signature: usize, args: &[u8]) -> bool
+    requires signature_lt_signatures { signature < prepared.now.bundle.tables.signatures }
+    requires arguments { Arguments (model prepared.now.bundle) ((model prepared.now.bundle).sig_function signature) args.now }
+    ensures { result ≡ covers (model prepared.now.bundle) signature args.now }
 {
-    each_under(
-        scratch,
+    prepared.each_under(
         args,
-        signature_classes(bundle, b, args.len(), signature),
+        prepared.bundle.signature_classes(args.len(), signature),
     )
 }
 
 // Whether signature s is one of function f and covers its argument classes.
-fn covers_send(bundle: &[u8], b: Bundle, scratch: &[u8], f: usize, args: &[u8], s: usize) -> bool
-    requires prepared { Prepared bundle.now b scratch.now }
-    requires arguments { Arguments (model_of bundle.now) f args.now }
-    requires s_lt_signatures { s < b.signatures }
-    ensures { result ≡ covers_send (model_of bundle.now) f args.now s }
+#[tactic(auto, unfolding(rules::specs::Coverage::covers_send))]
+fn covers_send(prepared: &PreparedBundle<'_>, f: usize, args: &[u8], s: usize) -> bool
+    requires arguments { Arguments (model prepared.now.bundle) f args.now }
+    requires s_lt_signatures { s < prepared.now.bundle.tables.signatures }
+    ensures { result ≡ covers_send (model prepared.now.bundle) f args.now s }
 {
-    if sig_function(bundle, b, s) != f {
-        return false;
-    }
-    covers(bundle, b, scratch, s, args)
+    prepared.bundle.sig_function(s) == f && covers(prepared, s, args)
 }
 
 // Whether some signature of function f covers its argument classes.
-pub fn is_covered(bundle: &[u8], b: Bundle, scratch: &[u8], f: usize, args: &[u8]) -> bool
-    requires prepared { Prepared bundle.now b scratch.now }
-    requires arguments { Arguments (model_of bundle.now) f args.now }
-    ensures { result ≡ is_covered (model_of bundle.now) f args.now }
+pub fn is_covered(prepared: &PreparedBundle<'_>, f: usize, args: &[u8]) -> bool
+    requires { Arguments (model prepared.now.bundle) f args.now }
+    ensures { result ≡ is_covered (model prepared.now.bundle) f args.now }
 {
-    let signatures = b.signatures;
-    let mut s = 0;
-    while s < signatures {
-        if covers_send(bundle, b, scratch, f, args, s) {
+    for s in 0..prepared.bundle.tables.signatures {
+        if covers_send(prepared, f, args, s) {
             return true;
         }
-        s += 1;
     }
     false
 }

@@ -1,45 +1,39 @@
 // A send as a caller passes it: any function number, and any number for each place.
-ghost use Rattle.std.specs.Prelude.{◌≡◌, true, false, ◌<◌};
+ghost use Rattle.std.specs.Prelude.{◌≡◌, true, ◌<◌, ◌≤◌, take, is_some, IfSome};
 ghost use Rattle.rules.specs.Bounded.{every};
-ghost use Rattle.rules.specs.Layout.{max_classes, tuple_rule};
-ghost use Rattle.rules.specs.Model.{model_of, present};
+ghost use Rattle.rules.specs.Layout.{max_classes, places, tuple_rule};
+ghost use Rattle.rules.specs.Model.{present};
 ghost use Rattle.rules.specs.Coverage.{concrete_class};
 ghost use Rattle.rules.specs.Calls.{send_rule, run_rule};
-ghost use Rattle.layout.specs.Opened.{Opened};
+ghost use Rattle.layout.specs.Bundles.{model};
 ghost use Rattle.answers.specs.Send.{classes_of, tuple_of};
-ghost use Rattle.sends.specs.Send.{Passes, PassesNone};
+ghost use Rattle.sends.specs.Send.{Passes};
 
 use answers::send::{Send, Tuple};
 use layout::bundle::Bundle;
-use layout::bytes::byte_at;
-use layout::field::{arity, is_concrete};
+use layout::open::OpenBundle;
 use record_rules::tuple::fits;
 
 // Whether the numbers are classes at the first n places, and 0 at the others.
 fn is_tuple(classes: usize, n: usize, places: &[usize]) -> bool
     ensures { result ≡ tuple_rule classes n places.now }
 {
-    let mut i = 0;
-    while i < places.len() {
-        if !fits(classes, n, i, places[i]) {
+    for (i, place) in places.iter().enumerate() {
+        if !fits(classes, n, i, *place) {
             return false;
         }
-        i += 1;
     }
     true
 }
 
 // Whether the function and the classes at its places are there, and unused places hold 0.
-fn is_send(bundle: &[u8], b: Bundle, send: Send) -> bool
-    requires { Opened bundle.now b }
-    ensures { result ≡ send_rule (model_of bundle.now) send.function (tuple_of send) }
+fn is_send(bundle: &OpenBundle<'_>, send: Send) -> bool
+    ensures { result ≡ send_rule (model bundle.now) send.function (tuple_of send) }
 {
-    if b.functions <= send.function {
-        return false;
-    }
     let tuple = send.tuple;
     let places = [tuple.a0, tuple.a1, tuple.a2];
-    is_tuple(b.classes, arity(bundle, b, send.function), &places)
+    send.function < bundle.tables.functions
+        && is_tuple(bundle.tables.classes, bundle.arity(send.function), &places)
 }
 
 // A tuple as bytes: classes have numbers below 128.
@@ -52,72 +46,55 @@ fn class_bytes(tuple: Tuple) -> [u8; Bundle::PLACES]
     [tuple.a0 as u8, tuple.a1 as u8, tuple.a2 as u8]
 }
 
-// Whether a send keeps its rule; where it does, the classes at its places, of which the first `count` are used, and zeros where it does not.
+// The classes at the places of a send, of which the first `count` are used.
 #[derive(Clone, Copy)]
 pub struct Passed {
-    pub is_send: bool,
     pub count: usize,
     pub classes: [u8; Bundle::PLACES],
+    ghost within: { count ≤ places },
 }
 
-// The classes that a send passes.
-pub fn classes_of(bundle: &[u8], b: Bundle, send: Send) -> Passed
-    requires { Opened bundle.now b }
-    ensures is_send_value { result.is_send ≡ send_rule (model_of bundle.now) send.function (tuple_of send) }
-    ensures passes { result.is_send ≡ true → Passes (model_of bundle.now) send.function (tuple_of send) result.count result.classes }
-    ensures passes_none { result.is_send ≡ false → PassesNone result.count result.classes }
+impl Passed {
+    // The classes that are used.
+    pub fn as_slice(&self) -> &[u8]
+        ensures { result.now ≡ take self.now.count self.now.classes }
+    {
+        &self.classes[..self.count]
+    }
+}
+
+// The classes that a send passes, if it keeps its rule.
+pub fn classes_of(bundle: &OpenBundle<'_>, send: Send) -> Option<Passed>
+    ensures is_send_value { is_some result ≡ send_rule (model bundle.now) send.function (tuple_of send) }
+    ensures passes { IfSome result (λ p. Passes (model bundle.now) send.function (tuple_of send) p.count p.classes) }
 {
-    if !is_send(bundle, b, send) {
-        return Passed {
-            is_send: false,
-            count: 0,
-            classes: [0; Bundle::PLACES],
-        };
+    if !is_send(bundle, send) {
+        return None;
     }
-    let count = arity(bundle, b, send.function);
+    let count = bundle.arity(send.function);
     let classes = class_bytes(send.tuple);
-    Passed {
-        is_send: true,
-        count,
-        classes,
-    }
+    Some(Passed { count, classes })
 }
 
 // Whether all of these classes are concrete.
-pub fn all_concrete(bundle: &[u8], b: Bundle, args: &[u8]) -> bool
-    requires opened { Opened bundle.now b }
-    requires args_value { present (model_of bundle.now) args.now ≡ true }
-    ensures { result ≡ every (concrete_class (model_of bundle.now)) args.now }
+pub fn all_concrete(bundle: &OpenBundle<'_>, args: &[u8]) -> bool
+    requires { present (model bundle.now) args.now ≡ true }
+    ensures { result ≡ every (concrete_class (model bundle.now)) args.now }
 {
-    let mut i = 0;
-    while i < args.len() {
-        if !is_concrete(bundle, b, byte_at(args, i)) {
+    for class in args {
+        if !bundle.is_concrete(usize::from(*class)) {
             return false;
         }
-        i += 1;
     }
     true
 }
 
 // The classes that a send passes, for a call that refuses abstract ones too.
-pub fn concrete_classes_of(bundle: &[u8], b: Bundle, send: Send) -> Passed
-    requires { Opened bundle.now b }
-    ensures is_send_value { result.is_send ≡ run_rule (model_of bundle.now) send.function (tuple_of send) }
-    ensures passes { result.is_send ≡ true → Passes (model_of bundle.now) send.function (tuple_of send) result.count result.classes }
-    ensures passes_none { result.is_send ≡ false → PassesNone result.count result.classes }
+#[tactic(auto, unfolding(rules::specs::Calls::run_rule))]
+pub fn concrete_classes_of(bundle: &OpenBundle<'_>, send: Send) -> Option<Passed>
+    ensures is_send_value { is_some result ≡ run_rule (model bundle.now) send.function (tuple_of send) }
+    ensures passes { IfSome result (λ p. Passes (model bundle.now) send.function (tuple_of send) p.count p.classes) }
 {
-    let args = classes_of(bundle, b, send);
-    if !args.is_send {
-        return args;
-    }
-    let n = args.count;
-    let classes = args.classes;
-    if !all_concrete(bundle, b, &classes[..n]) {
-        return Passed {
-            is_send: false,
-            count: 0,
-            classes: [0; Bundle::PLACES],
-        };
-    }
-    args
+    let args = classes_of(bundle, send)?;
+    all_concrete(bundle, args.as_slice()).then_some(args)
 }

@@ -16,8 +16,9 @@ use Rattle.rules.specs.Accepted.{ended, not_accepted, not_covered, accepted_by, 
 use Rattle.rules.proofs.Lists.{and_right}
 use Rattle.rules.proofs.Sound.{demand_3}
 use Rattle.rules.proofs.Accepted.{covered_by}
-use Rattle.layout.specs.Opened.{Opened, opened}
+use Rattle.layout.specs.Opened.{Opened}
 use Rattle.layout.specs.declared.bundle.Bundle.{Bundle}
+use Rattle.layout.proofs.Opened.{counts_given}
 use Rattle.machine.specs.declared.ending.Ending.{Ending}
 use Rattle.machine.specs.declared.ending.Ending.TheVariants as ending
 use Rattle.machine.specs.Endings.{ending_of}
@@ -58,6 +59,7 @@ unstopped M f args (ending.Stopped number m at) s = s
 pub sound_ending : {b : List ℕ} {t : Bundle} → Opened b t → verdict (model_of b) ≡ gives tt → (f : ℕ) (args : List ℕ) (count : ℕ)
     → every (concrete_class (model_of b)) args ≡ true → is_covered (model_of b) f args ≡ true
     → SoundEnding (model_of b) f args (run (model_of b) f args count).outcome.ending
-sound_ending {b} (opened counts o tables) v f args count e c =
+sound_ending {b} o v f args count e c =
     let (s, covering) = covered_by (model_of b) f args c in
-    (demand_3 b counts o v f args s covering e count).ending
+    let (counts, opens) = counts_given o in
+    (demand_3 b counts opens v f args s covering e count).ending

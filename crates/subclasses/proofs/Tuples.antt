@@ -1,22 +1,29 @@
--- Tuples that are filled from a list.
+-- What is written at the start of a tuple or a part.
 -- Assumes nothing.
-use Prim.Native.Nat.{ℕ, ◌+◌, ◌≤◌, ◌<◌}
-use native.Mathlib.Numerals.{add-one}
+use Prim.Native.Nat.{ℕ, suc, ◌/◌, ◌%◌, ◌≤◌}
 use native.Mathlib.Omega.{arith}
-use mathlib.Core.Path.{◌≡◌, ap}
-use mathlib.Core.List.{List}
-use lib.ListN.{length, get_or, set, take}
-use lib.Seq.{take_all, take-suc, length-take-le}
+use mathlib.Core.Path.{◌≡◌, refl}
+use mathlib.Core.List.{List, [], ◌∷◌, ◌++◌}
+use lib.ListN.{length, drop, replicate}
+use mir.Syntax.{w64}
+use Rattle.std.specs.Int.{to_le_bytes}
+use Rattle.rules.specs.Bounded.{upto}
 use Rattle.rules.specs.Layout.{places, padded}
-use Rattle.rules.proofs.Tuples.{padded_more}
+use Rattle.rules.specs.Calls.{overwrite}
+use Rattle.subclasses.specs.Matrix.{word_byte}
 
--- a tuple that holds the first i classes of a list, with one more, and with all
-module _ (xs : List ℕ) (i : ℕ) where
-  pub filled_next : i < length xs → length xs ≤ places → set (padded (take i xs)) i (get_or xs i 0) ≡ padded (take (i + 1) xs)
-  filled_next h few =
-      let long : length (take i xs) ≡ i = length-take-le i xs (omega arith) in
-      let next = padded_more (take i xs) (get_or xs i 0) (omega arith) in
-      rw (add-one i, take-suc xs i 0 h) (rw long at next)
+-- the classes of a list at the first places of an empty tuple
+pub padded_put : (xs : List ℕ) → length xs ≤ places → xs ++ drop (length xs) (replicate places 0) ≡ padded xs
+unfolding padded
+padded_put [] h = refl
+padded_put (x ∷ []) h = refl
+padded_put (x ∷ y ∷ []) h = refl
+padded_put (x ∷ y ∷ z ∷ []) h = refl
+padded_put (x ∷ y ∷ z ∷ w ∷ xs) h = let long : suc (suc (suc (suc (length xs)))) ≤ 3 = h in absurd (omega arith)
 
-  pub filled_all : length xs ≤ i → padded (take i xs) ≡ padded xs
-  filled_all h = ap padded (take_all i xs h)
+-- the bytes of a word at the start of a part
+pub word_put : (x : ℕ) (old : List ℕ) → to_le_bytes w64 x ++ drop 8 old ≡ overwrite 8 (word_byte x) old
+unfolding overwrite word_byte upto
+word_put x old =
+    let low : x % 256 ≡ x / 1 % 256 = omega arith in
+    cc

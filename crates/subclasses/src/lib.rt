@@ -2,5 +2,5 @@
 #![tactic(auto)]
 
 pub mod matrix;
-pub mod places;
+pub mod prepared;
 pub mod tuple;

@@ -1,81 +1,48 @@
-// The subclass matrix: bit c mod 8, the lowest first, of byte 16·a + c / 8 of the scratch is 1 when class a is under class c. `fill` writes it and `ancestry_of`
-// asks it; nothing else knows how it is stored.
-ghost use Rattle.std.specs.Prelude.{◌≡◌, ◌||◌, ℕ, ◌*◌, ◌<◌, ◌≤◌, eqb, length};
+// The subclass matrix: bit c mod 8, the lowest first, of byte 16·a + c / 8 of the scratch is 1 when class a is under class c. `fill`
+// writes it and `under` asks it; nothing else knows how it is stored.
+ghost use Rattle.std.specs.Prelude.{◌≡◌, ◌*◌, ◌<◌, ◌≤◌, length};
 ghost use Rattle.rules.specs.Layout.{max_classes};
-ghost use Rattle.rules.specs.Model.{model_of};
-ghost use Rattle.rules.specs.Bits.{in_set};
 ghost use Rattle.rules.specs.Scratch.{scratch_bytes, entry_at, matrix_byte};
 ghost use Rattle.rules.specs.Calls.{overwrite};
-ghost use Rattle.layout.specs.Opened.{Opened};
-ghost use Rattle.subclasses.specs.Matrix.{RowOf, RowsTo, word_byte, ancestry_at};
+ghost use Rattle.layout.specs.Bundles.{model};
+ghost use Rattle.subclasses.specs.Matrix.{Filled, RowOf, RowsTo, word_byte, ancestry_at};
 ghost use Rattle.subclasses.specs.Ancestry.{ancestry_of};
 
+use inheritance::class_set::ClassSet;
 use layout::bundle::Bundle;
-use layout::field::{parent, parent_count};
+use layout::open::OpenBundle;
+
+const CLASSES: usize = Bundle::CLASSES;
 
 // The bytes of a row, and of the matrix.
-const ROW_BYTES: usize = Bundle::CLASSES / 8;
+const ROW_BYTES: usize = CLASSES / 8;
 
-pub const BYTES: usize = Bundle::CLASSES * ROW_BYTES;
+pub const BYTES: usize = CLASSES * ROW_BYTES;
 
-// Rows are made as words of bits, and written as bytes once all are made.
-const WORD_BITS: usize = 64;
-
+// Rows are made as sets of classes, and the words of the sets written as bytes once all are made.
 const WORD_BYTES: usize = 8;
 
-const ROW_WORDS: usize = Bundle::CLASSES / WORD_BITS;
-
-const WORDS: usize = Bundle::CLASSES * ROW_WORDS;
-
-// The row that has class a alone.
-fn own_row(a: usize) -> [u64; ROW_WORDS]
-    requires { a < max_classes }
-    ensures { (c : ℕ) → c < max_classes → in_set result 0 c ≡ eqb a c }
-{
-    let mut row = [0u64; ROW_WORDS];
-    row[a / WORD_BITS] = 1 << (a % WORD_BITS);
-    row
-}
-
-// A row with the classes of row p as well.
-fn joined(row: &[u64; ROW_WORDS], rows: &[u64; WORDS], p: usize) -> [u64; ROW_WORDS]
-    requires { p < max_classes }
-    ensures { (c : ℕ) → c < max_classes → in_set result 0 c ≡ (in_set row.now 0 c || in_set rows.now (2 * p) c) }
-{
-    let at = ROW_WORDS * p;
-    [row[0] | rows[at], row[1] | rows[at + 1]]
-}
-
 // Row a: the class itself, and the rows of its parents, which are lower.
-fn row_of(bytes: &[u8], b: Bundle, rows: &[u64; WORDS], a: usize) -> [u64; ROW_WORDS]
-    requires opened { Opened bytes.now b }
-    requires a_lt_classes { a < b.classes }
-    requires rows_to { RowsTo (model_of bytes.now) a rows.now }
-    ensures { RowOf (model_of bytes.now) a result }
+fn row_of(bundle: &OpenBundle<'_>, rows: &[ClassSet; CLASSES], a: usize) -> ClassSet
+    requires a_lt_classes { a < bundle.now.tables.classes }
+    requires rows_to { RowsTo (model bundle.now) a rows.now }
+    ensures { RowOf (model bundle.now) a result }
 {
-    let mut row = own_row(a);
-    let n = parent_count(bytes, b, a);
-    let mut i = 0;
-    while i < n {
-        let p = parent(bytes, b, a, i);
-        row = joined(&row, rows, p);
-        i += 1;
+    let mut row = ClassSet::only(a);
+    for i in 0..bundle.parent_count(a) {
+        let p = bundle.parent(a, i);
+        row = row.union(rows[p]);
     }
     row
 }
 
 // All rows; those of numbers that are no class are empty.
-fn rows_of(bytes: &[u8], b: Bundle) -> [u64; WORDS]
-    requires { Opened bytes.now b }
-    ensures { RowsTo (model_of bytes.now) b.classes result }
+fn rows_of(bundle: &OpenBundle<'_>) -> [ClassSet; CLASSES]
+    ensures { RowsTo (model bundle.now) bundle.now.tables.classes result }
 {
-    let mut rows = [0u64; WORDS];
-    let mut a = 0;
-    while a < b.classes {
-        let row = row_of(bytes, b, &rows, a);
-        rows[ROW_WORDS * a] = row[0];
-        rows[ROW_WORDS * a + 1] = row[1];
-        a += 1;
+    let mut rows = [ClassSet::EMPTY; CLASSES];
+    for a in 0..bundle.tables.classes {
+        rows[a] = row_of(bundle, &rows, a);
     }
     rows
 }
@@ -85,25 +52,21 @@ fn put_word(word: u64, part: &mut [u8])
     requires { 8 ≤ length part.old }
     ensures { part.new ≡ overwrite 8 (word_byte word) part.old }
 {
-    let mut j = 0;
-    while j < WORD_BYTES {
-        part[j] = ((word >> (8 * j)) % 256) as u8;
-        j += 1;
-    }
+    part[..WORD_BYTES].copy_from_slice(&word.to_le_bytes());
 }
 
-// Writes the matrix into the first bytes of the scratch. Each class costs two words for each of its parents.
-pub fn fill(bytes: &[u8], b: Bundle, scratch: &mut [u8])
-    requires opened { Opened bytes.now b }
-    requires scratch_bytes_in_bounds { scratch_bytes ≤ length scratch.old }
-    ensures { scratch.new ≡ overwrite scratch_bytes (matrix_byte (model_of bytes.now)) scratch.old }
+// Writes the matrix into the first bytes of the scratch, which is what a prepared bundle asks. Each class costs two words for each of its parents.
+pub fn fill(bundle: &OpenBundle<'_>, scratch: &mut [u8])
+    requires { scratch_bytes ≤ length scratch.old }
+    ensures written { scratch.new ≡ overwrite scratch_bytes (matrix_byte (model bundle.now)) scratch.old }
+    ensures filled { Filled (model bundle.now) scratch.new }
 {
-    let rows = rows_of(bytes, b);
-    let mut w = 0;
-    while w < WORDS {
-        let at = WORD_BYTES * w;
-        put_word(rows[w], &mut scratch[at..]);
-        w += 1;
+    let rows = rows_of(bundle);
+    for (a, row) in rows.iter().enumerate() {
+        let [low, high] = row.words;
+        let at = ROW_BYTES * a;
+        put_word(low, &mut scratch[at..]);
+        put_word(high, &mut scratch[at + WORD_BYTES..]);
     }
 }
 
@@ -115,33 +78,28 @@ pub enum Ancestry {
     Neither,
 }
 
-// How class a stands to class c, in a scratch that holds the matrix of a model. The bit of the two is asked before their numbers are compared, so that a
-// caller to whom an heir is as good as the same class waits for no comparison.
-pub fn ancestry_of(scratch: &[u8], a: usize, c: usize) -> Ancestry
-    requires scratch_bytes_in_bounds { scratch_bytes ≤ length scratch.now }
-    requires a_lt_max_classes { a < max_classes }
-    requires c_lt_max_classes { c < max_classes }
-    ensures { ancestry_of result ≡ ancestry_at scratch.now a c }
-{
-    let is_under = (scratch[ROW_BYTES * a + c / 8] >> (c % 8)) % 2 == 1;
-    if !is_under {
-        return Ancestry::Neither;
-    }
-    if a == c {
-        return Ancestry::Same;
-    }
-    Ancestry::Heir
-}
-
-// Whether class a is under class c, the same or an heir.
+// Whether class a is under class c, the same or an heir, in a scratch that holds the matrix of a model.
 pub fn under(scratch: &[u8], a: usize, c: usize) -> bool
     requires scratch_bytes_in_bounds { scratch_bytes ≤ length scratch.now }
     requires a_lt_max_classes { a < max_classes }
     requires c_lt_max_classes { c < max_classes }
     ensures { result ≡ entry_at scratch.now a c }
 {
-    match ancestry_of(scratch, a, c) {
-        Ancestry::Same | Ancestry::Heir => true,
-        Ancestry::Neither => false,
+    (scratch[ROW_BYTES * a + c / 8] >> (c % 8)) % 2 == 1
+}
+
+// How class a stands to class c. The bit of the two is asked before their numbers are compared: most classes stand apart.
+pub fn ancestry_of(scratch: &[u8], a: usize, c: usize) -> Ancestry
+    requires scratch_bytes_in_bounds { scratch_bytes ≤ length scratch.now }
+    requires a_lt_max_classes { a < max_classes }
+    requires c_lt_max_classes { c < max_classes }
+    ensures { ancestry_of result ≡ ancestry_at scratch.now a c }
+{
+    if !under(scratch, a, c) {
+        return Ancestry::Neither;
     }
+    if a == c {
+        return Ancestry::Same;
+    }
+    Ancestry::Heir
 }

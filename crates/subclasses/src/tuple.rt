@@ -1,5 +1,5 @@
 // Tuples of classes, a byte for each.
-ghost use Rattle.std.specs.Prelude.{◌≡◌, ◌<◌, ◌≤◌, length};
+ghost use Rattle.std.specs.Prelude.{◌≡◌, ◌≤◌, length};
 ghost use Rattle.rules.specs.Layout.{places, padded};
 
 use layout::bundle::Bundle;
@@ -10,10 +10,6 @@ pub fn padded_tuple(args: &[u8]) -> [u8; Bundle::PLACES]
     ensures { result ≡ padded args.now }
 {
     let mut tuple = [0u8; Bundle::PLACES];
-    let mut i = 0;
-    while i < args.len() {
-        tuple[i] = args[i];
-        i += 1;
-    }
+    tuple[..args.len()].copy_from_slice(args);
     tuple
 }

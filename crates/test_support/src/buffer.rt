@@ -10,19 +10,13 @@ pub const MATRIX: usize = 2048;
 
 pub const MATRIX_ROW: usize = 16;
 
-fn wide(x: u8) -> usize
-    ensures { (result ≡ x) × (result < 256) }
-{
-    x as usize
-}
-
 // The byte at a place, 0 past the end.
 pub fn byte(bytes: &[u8], at: usize) -> usize
     ensures value { result ≡ slice_index bytes.now at }
     ensures upper_bound { result < 256 }
 {
     if at < bytes.len() {
-        return wide(bytes[at]);
+        return usize::from(bytes[at]);
     }
     0
 }

@@ -19,11 +19,10 @@ use Rattle.answers.specs.declared.opening.LayoutFinding as layout-type
 use Rattle.layout.proofs.Opened.{wellformed_of, counts_of}
 use Rattle.bundle_rules.proofs.Opened.{opened_of}
 use Rattle.answers.specs.declared.finding.Finding.TheVariants as finding
-use Rattle.answers.specs.declared.finding.Verdict as verdict-type
-use Rattle.answers.specs.declared.finding.Verdict.TheVariants as verdict
+use Rattle.std.specs.Prelude.{Result, Ok, Err}
+use Rattle.answers.specs.declared.finding.Finding as finding-type
 use Rattle.answers.specs.Findings.{coverage_said, verdict_said}
-use Rattle.text.specs.declared.listing.ListingAnswer as listing-type
-use Rattle.text.specs.declared.listing.ListingAnswer.TheVariants as listing
+use Rattle.text.specs.declared.listing.ShortBuffer.{ShortBuffer}
 use Rattle.lines.specs.Text.{counts_line, verdict_line, listing_on}
 use Rattle.lines.specs.Text as text
 use Rattle.lines.specs.Appended.{finding_room, Appended}
@@ -65,19 +64,19 @@ module _ (M : Model) where
       rw (q, refusal_second s t (judge M s t) (rw q at h)) (w.sig_function_lem s bound)
 
 module _ {b : List ℕ} {t : Bundle} (o : OpenedAs b t) where
-  pub verdict_named : (r : verdict-type.Verdict) → verdict_said r ≡ coverage-rules.verdict (model_of b) → Named t.functions r
+  pub verdict_named : (r : Result (Unit {0}) finding-type.Finding) → verdict_said r ≡ coverage-rules.verdict (model_of b) → Named t.functions r
   unfolding coverage-rules.verdict
-  verdict_named verdict.Accepted c = tt
-  verdict_named (verdict.Refused (finding.Layout f)) c = tt
-  verdict_named (verdict.Refused finding.Scratch) c = tt
-  verdict_named (verdict.Refused (finding.Coverage x)) c =
+  verdict_named (Ok x) c = tt
+  verdict_named (Err (finding.Layout f)) c = tt
+  verdict_named (Err finding.Scratch) c = tt
+  verdict_named (Err (finding.Coverage x)) c =
       let M = model_of b in
       let e : coverage_said x ≡ coverage_verdict M (broken_signature M) = c in
       let there = verdict_second M (wellformed_of (opened_of o)) (broken_signature M) refl (subst (λ (a : Answer (Unit {0})). 5 ≤ many a) e (omega arith)) in
       omega (arith, there, ap second e, (counts_of (opened_of o)).functions)
-  verdict_named (verdict.Refused (finding.Body x)) c = tt
+  verdict_named (Err (finding.Body x)) c = tt
 
-  pub composed_opened : (v : verdict-type.Verdict) (old mid new : List ℕ) (q r : ℕ) → verdict_said v ≡ coverage-rules.verdict (model_of b) → 512 ≤ length old
+  pub composed_opened : (v : Result (Unit {0}) finding-type.Finding) (old mid new : List ℕ) (q r : ℕ) → verdict_said v ≡ coverage-rules.verdict (model_of b) → 512 ≤ length old
       → Appended 140 old 0 (counts_line (t.classes ∷ t.functions ∷ t.signatures ∷ t.methods ∷ [])) mid q
       → Appended finding_room mid q (verdict_line (model_of b) (verdict_said v)) new r → Composed b new r
   unfolding text.listing listing_on
@@ -102,10 +101,10 @@ module _ (piece own : List ℕ) (r : ℕ) (fits : r ≤ length own) (written : t
   piece_length : length piece ≡ r
   piece_length = ap length (sym written) ∙ length-take-le r own fits
 
-  pub copied_short : (old : List ℕ) → length old < r → Written piece old old listing.Short
+  pub copied_short : (old : List ℕ) → {e : ShortBuffer} → length old < r → Written piece old old (Err e)
   copied_short old h = (omega (arith, h, piece_length), refl)
 
-  pub copied_written : (old new : List ℕ) → r ≤ length old → new ≡ take r own ++ drop r old → Written piece old new (listing.Written r)
+  pub copied_written : (old new : List ℕ) → r ≤ length old → new ≡ take r own ++ drop r old → Written piece old new (Ok r)
   copied_written old new h e = (
     sym piece_length,
     omega (arith, h, piece_length),
@@ -113,18 +112,15 @@ module _ (piece own : List ℕ) (r : ℕ) (fits : r ≤ length own) (written : t
   )
 
 -- the same of the listing
-pub listed_short : (b own old : List ℕ) (r : ℕ) → Composed b own r → length old < r → Lists b old old listing.Short
+pub listed_short : (b own old : List ℕ) (r : ℕ) → Composed b own r → {e : ShortBuffer} → length old < r → Lists b old old (Err e)
 listed_short b own old r c h = record { written = copied_short (text.listing b) own r c.fits c.written old h }
 
 pub listed_written : (b own old new : List ℕ) (r : ℕ) → Composed b own r → r ≤ length old
-    → new ≡ take r own ++ drop r old → Lists b old new (listing.Written r)
+    → new ≡ take r own ++ drop r old → Lists b old new (Ok r)
 listed_written b own old new r c h e = record { written = copied_written (text.listing b) own r c.fits c.written old new h e }
 
 -- what is written is within the buffer
-pub piece_within : (piece old new : List ℕ) {n : ℕ} {r : listing-type.ListingAnswer} → r ≡ listing.Written n → Written piece old new r → n ≤ length new
+pub piece_within : (piece old new : List ℕ) {n : ℕ} {r : Result ℕ ShortBuffer} → r ≡ Ok n → Written piece old new r → n ≤ length new
 piece_within piece old new e l =
     let w = subst (Written piece old new) e l in
     omega (arith, w.0, ap length w.2, length-append piece (drop (length piece) old))
-
-pub written_within : {b old new : List ℕ} {n : ℕ} {r : listing-type.ListingAnswer} → r ≡ listing.Written n → Lists b old new r → n ≤ length new
-written_within {b} {old} {new} e l = piece_within (text.listing b) old new e l.written

@@ -1,61 +1,49 @@
 // The listing of a bundle, in a lent buffer.
 ghost use Rattle.std.specs.Prelude.{◌≡◌, ◌≤◌, length};
-ghost use Rattle.rules.specs.Scratch.{scratch_bytes};
 ghost use Rattle.text.specs.Listed.{OpenedAs, Composed, Told, Lists, listing_reply};
 
-use answers::number::SHORT_BUFFER;
-use answers::opening::Opening;
+use answers::number::Number;
 use bundle_rules::opening::open;
-use layout::bundle::Bundle;
+use layout::open::OpenBundle;
 use lines::line::{counts_line, layout_line, verdict_line};
 use reply::Reply;
 use subclasses::matrix::{BYTES, fill};
+use subclasses::prepared::PreparedBundle;
 use verdicts::check::check_in;
 
-// The text is at the start of the buffer, so many bytes; or the buffer is too short, and untouched.
+// The buffer is too short, and untouched: 20, as for a row.
 #[derive(Clone, Copy)]
-pub enum ListingAnswer {
-    Written(usize),
-    Short,
-}
+pub struct ShortBuffer;
 
-impl ListingAnswer {
-    // The length, or 20 as for a row that is too short.
-    pub fn reply(self) -> Reply
-        ensures { result ≡ listing_reply self }
-    {
-        match self {
-            ListingAnswer::Written(n) => Reply::pair(0, n, 0),
-            ListingAnswer::Short => Reply::pair(SHORT_BUFFER, 0, 0),
-        }
+// The length of a text, or 20.
+pub fn listing_reply(answer: Result<usize, ShortBuffer>) -> Reply
+    ensures { result ≡ listing_reply answer }
+{
+    match answer {
+        Ok(n) => Reply::given(n, 0),
+        Err(ShortBuffer) => Reply::refused(Number::ShortBuffer, 0, 0),
     }
 }
 
 // Room for the longest listing.
-fn room() -> [u8; 512]
-    ensures { length result ≡ 512 }
-{
-    [0; 512]
-}
-
-fn matrix() -> [u8; BYTES]
-    ensures { length result ≡ scratch_bytes }
-{
-    [0; BYTES]
-}
+const ROOM: usize = 512;
 
 // Writes the two lines for a bundle that opens.
-fn compose_opened(bundle: &[u8], b: Bundle, text: &mut [u8]) -> usize
-    requires opened_as { OpenedAs bundle.now b }
+fn compose_opened(bundle: &OpenBundle<'_>, text: &mut [u8]) -> usize
+    requires opened_as { OpenedAs bundle.now.bytes.now bundle.now.tables }
     requires in_bounds { 512 ≤ length text.old }
-    ensures composed { Composed bundle.now text.new result }
+    ensures composed { Composed bundle.now.bytes.now text.new result }
     ensures text_len_unchanged { length text.new ≡ length text.old }
 {
-    let mut scratch = matrix();
-    fill(bundle, b, &mut scratch);
-    let verdict = check_in(bundle, b, &scratch);
-    let at = counts_line(text, b);
-    verdict_line(bundle, b, text, at, verdict)
+    let mut scratch = [0; BYTES];
+    fill(bundle, &mut scratch);
+    let prepared = PreparedBundle {
+        bundle: *bundle,
+        scratch: &scratch,
+    };
+    let verdict = check_in(&prepared);
+    let at = counts_line(text, bundle.tables);
+    verdict_line(bundle, text, at, verdict)
 }
 
 // Writes the listing.
@@ -64,23 +52,22 @@ fn compose(bundle: &[u8], text: &mut [u8]) -> usize
     ensures composed { Composed bundle.now text.new result }
     ensures text_len_unchanged { length text.new ≡ length text.old }
 {
-    let opening = open(bundle);
-    let Opening::Opened(b) = opening else {
-        return layout_line(text, 0, opening.finding());
-    };
-    compose_opened(bundle, b, text)
+    match open(bundle) {
+        Ok(opened) => compose_opened(&opened, text),
+        Err(found) => layout_line(text, 0, found),
+    }
 }
 
-// Writes the listing of a bundle to the start of the buffer. 512 bytes are enough for any.
-pub fn listing(bundle: &[u8], text: &mut [u8]) -> ListingAnswer
+// Writes the listing of a bundle to the start of the buffer: how many bytes it has. 512 bytes are enough for any.
+pub fn listing(bundle: &[u8], text: &mut [u8]) -> Result<usize, ShortBuffer>
     ensures told { 512 ≤ length text.old → Told result }
     ensures lists { Lists bundle.now text.old text.new result }
 {
-    let mut own = room();
+    let mut own = [0; ROOM];
     let n = compose(bundle, &mut own);
     if text.len() < n {
-        return ListingAnswer::Short;
+        return Err(ShortBuffer);
     }
     text[..n].copy_from_slice(&own[..n]);
-    ListingAnswer::Written(n)
+    Ok(n)
 }

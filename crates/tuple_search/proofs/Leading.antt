@@ -10,22 +10,21 @@ use lib.Dec.{eqb}
 use lib.ListN.{length, get_or, take}
 use lib.Seq.{take_all, take-length}
 use borrow.Author.Tests.{eqb-true}
+use Rattle.std.specs.Prelude.{Option, Some, None, IfSome}
 use Rattle.rules.specs.Bounded.{upto}
 use Rattle.rules.specs.Layout.{places}
-use Rattle.rules.specs.Model.{Model, Wellformed, model_of}
+use Rattle.rules.specs.Model.{Model, Wellformed}
 use Rattle.rules.specs.Subclass.{subclass, under}
 use Rattle.rules.specs.Lookup.{found, applies, left, applicable_so_far, as_specific, lookup}
 use Rattle.rules.specs.Alike.{above_alike, alike_at}
 use Rattle.rules.specs.Bits.{in_set}
 use Rattle.rules.proofs.Lists.{and_left, and_right, every_from, keep_mem, upto_below, matching_from}
 use Rattle.rules.proofs.Lookup.{Candidate, leader_lookup, candidate_left}
-use Rattle.layout.specs.Opened.{Opened}
-use Rattle.layout.specs.declared.bundle.Bundle.{Bundle}
-use Rattle.layout.proofs.Opened.{counts_of}
 use Rattle.subclasses.proofs.Asked.{class_below}
-use Rattle.method_sets.specs.Sets.{row_at, SetAt, method_at, SameWithin, class_of, Ordered, Tabled, Member, LedBy}
+use Rattle.method_sets.specs.Sets.{row_at, SetAt, method_at, SameWithin, class_of, Ordered, Tabled, Member}
 use Rattle.method_sets.proofs.Rows.{told_method}
 use Rattle.tuple_search.specs.declared.question.Question.{Question}
+use Rattle.tuple_search.specs.Leads.{LedBy, HandedDown}
 use Rattle.tuple_search.specs.Questions.{function_of}
 use Rattle.tuple_search.specs.Search.{Filling}
 
@@ -69,20 +68,25 @@ module _ {M : Model} {q : Question} {place : ℕ} {chosen order set : List ℕ} 
           let told = sym (told_of w t place a i m h l n x) ∙ same i (omega (arith, w.methods_limit)) y ∙ told_of w t place k i m h r n x in
           subst (λ (c : ℕ). above_alike M c a k ≡ true) (class_by stated M m place) (same_test (subclass M a c) (subclass M k c) told)
 
--- the count of methods, which is no method, may be handed down for any set
-pub led_none : {b : List ℕ} {t : Bundle} → Opened b t → (order admits set : List ℕ) (n : ℕ) → LedBy (model_of b) order admits set n t.methods
-led_none o order admits set n h = absurd (omega (arith, (counts_of o).methods))
+-- a lead is a method
+pub lead_present : (M : Model) (order admits set : List ℕ) (n methods : ℕ) → methods ≡ M.methods → (lead : Option ℕ) → LedBy M order admits set n lead
+    → IfSome lead (λ m. m < methods)
+lead_present M order admits set n methods e None led = tt
+lead_present M order admits set n methods e (Some m) led = omega (arith, led.0)
 
 -- what leads a set leads the part of it that applies to a class at a place, if it applies too
-pub led_part : {M : Model} → Wellformed M → {order admits : List ℕ} → Tabled false M order admits → (set part : List ℕ) (place k n lead m : ℕ) → place < places → k < M.classes
-    → LedBy M order admits set n lead → (m < M.methods → (m ≡ lead) × (subclass M k (get_or (M.specialisers lead) place 0) ≡ true))
-    → SetAt part 0 (λ i. in_set set 0 i && in_set admits (row_at place k) i) → LedBy M order admits part n m
+pub led_part : {M : Model} → Wellformed M → {order admits : List ℕ} → Tabled false M order admits → (set part : List ℕ) (place k n : ℕ) (lead next : Option ℕ)
+    → place < places → k < M.classes → LedBy M order admits set n lead → HandedDown M k place lead next
+    → SetAt part 0 (λ i. in_set set 0 i && in_set admits (row_at place k) i) → LedBy M order admits part n next
 unfolding class_of
-led_part {M} w {order} {admits} table set part place k n lead m h l led kept e q =
-    let (same, applying) = kept q in
-    let ((i, x, y, z), above) = led (rw same at q) in
-    let both = ap₂ (λ (a b : Bool). a && b) z (told_of w table place k i lead h l x y ∙ applying) in
-    rw same ((i, x, y, e i (omega (arith, w.methods_limit)) ∙ both), λ p u j v a. above p u j v (and_left (in_set set 0 j) (in_set admits (row_at place k) j) (sym (e j v) ∙ a)))
+led_part w table set part place k n lead None h l led kept e = tt
+led_part {M} w {order} {admits} table set part place k n lead (Some m) h l led (same, applying) e =
+    let (bound, (i, x, y, z), above) = subst (LedBy M order admits set n) same led in
+    let both = ap₂ (λ (a b : Bool). a && b) z (told_of w table place k i m h l x y ∙ applying) in (
+      bound,
+      (i, x, y, e i (omega (arith, w.methods_limit)) ∙ both),
+      λ p u j v a. above p u j v (and_left (in_set set 0 j) (in_set admits (row_at place k) j) (sym (e j v) ∙ a)),
+    )
 
 -- with every place filled, the methods left are those that apply
 left_candidate : (M : Model) → Wellformed M → (f : ℕ) (args : List ℕ) (m : ℕ) → length args ≡ M.arity f → m < M.methods → left M f args m ≡ true
@@ -100,17 +104,17 @@ left_candidate M w f args m e h q =
 
 -- and one that leads the set is what lookup finds
 module _ {M : Model} (w : Wellformed M) {q : Question} {chosen order set : List ℕ} (d : Ordered M order) (g : Filling M q (length chosen) chosen order set) where
-  pub lead_found : {admits : List ℕ} → Tabled false M order admits → length chosen ≤ places → (m : ℕ) → m < M.methods → LedBy M order admits set (length chosen) m
+  pub lead_found : {admits : List ℕ} → Tabled false M order admits → length chosen ≤ places → (m : ℕ) → LedBy M order admits set (length chosen) (Some m)
       → found m ≡ lookup M (function_of M q) chosen
   unfolding as_specific under class_of
-  lead_found table few m h led = sym (leader_lookup M w f chosen m (record { candidate = c; specific = specific }))
+  lead_found table few m (h, member, above) = sym (leader_lookup M w f chosen m (record { candidate = c; specific = specific }))
     where
       f : ℕ
       f = function_of M q
 
       c : Candidate M f chosen m
       c =
-          let (i, l, u, y) = (led h).0 in
+          let (i, l, u, y) = member in
           let e : left M f chosen m ≡ true = rw (take-length chosen, u) at (sym (g.methods i l) ∙ y) in
           left_candidate M w f chosen m g.arity h e
 
@@ -125,4 +129,4 @@ module _ {M : Model} (w : Wellformed M) {q : Question} {chosen order set : List 
           (λ p r.
           let inside : p < length chosen = omega (arith, long m c) in
           sym (told_of w table p (get_or (M.specialisers m) p 0) i n (omega arith) (class_below M (M.specialisers m) (w.specialisers_present m h) p r) l u)
-          ∙ (led h).1 p inside i (omega (arith, w.methods_limit)) y)
+          ∙ above p inside i (omega (arith, w.methods_limit)) y)

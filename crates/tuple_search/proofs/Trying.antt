@@ -1,6 +1,6 @@
 -- The classes tried at a place of a tuple, with none of which the search stops: a class that is alike to one of them does not stop it either.
 -- Assumes nothing.
-use Prim.Native.Nat.{ℕ, ◌+◌, ◌≤◌, ◌<◌}
+use Prim.Native.Nat.{ℕ, ◌+◌, ◌-◌, ◌≤◌, ◌<◌}
 use native.Mathlib.Omega.{arith}
 use mathlib.Core.Path.{◌≡◌, refl, sym, ap, subst, fun_ext, ◌∙◌}
 use mathlib.Core.Bool.{Bool, true, false, not}
@@ -8,11 +8,11 @@ use mathlib.Core.Logic.{◌⊎◌, inl, inr}
 use mathlib.Core.List.Memᴰ
 use mathlib.Core.List.{List, [], ◌∷◌, ◌++◌, append_assoc, Memᴰ}
 use mathlib.Core.Option.{none}
-use lib.ListN.{length, get_or, take, drop, set, length-set}
-use lib.Seq.{length-take-le, get_or-take, take-set-le, set-get_or, set-set}
+use lib.ListN.{length, get_or, take, drop, set, length-set, length-append}
+use lib.Seq.{length-take-le, take-set-le, set-get_or, set-set}
 use Rattle.rules.specs.Bounded.{every, first}
 use Rattle.rules.specs.Model.{Model, Wellformed, present}
-use Rattle.rules.specs.Layout.{places, max_classes}
+use Rattle.rules.specs.Layout.{places}
 use Rattle.rules.specs.Lookup.{Found, applicable_so_far}
 use Rattle.rules.specs.Coverage.{failing, candidate_class, tuples}
 use Rattle.rules.specs.Alike.{alike_at}
@@ -20,7 +20,7 @@ use Rattle.rules.specs.Rough.{is_method, is_failure}
 use Rattle.rules.proofs.Lists.{get_d_mem}
 use Rattle.rules.proofs.Alike.{left_decides, alike_found, alike_judged}
 use Rattle.subclasses.proofs.Asked.{class_below}
-use Rattle.method_sets.specs.Sets.{AlikeIn}
+use Rattle.method_sets.specs.Sets.{SomeAlike}
 use Rattle.tuple_search.specs.declared.question.Question.{Question}
 use Rattle.tuple_search.specs.declared.question.Question.TheVariants.{Rule, Finds, FindsOnly}
 use Rattle.tuple_search.specs.Questions.{function_of, stops_at, by_declared}
@@ -71,27 +71,22 @@ module _ {M : Model} {q : Question} {filled rest : List ℕ} where
 
 -- The loop over the classes of the next place, with those below k behind it: what the whole search finds is what it finds from k on, the tried classes do not
 -- stop it, and the tuple is as it was but for that place.
-pub record Behind (M : Model) (q : Question) (place : ℕ) (upper old chosen tried : List ℕ) (tries k : ℕ) : Type 0 where
-  pub within : k ≤ M.classes
-  pub few : tries ≤ k
+pub record Behind (M : Model) (q : Question) (place : ℕ) (upper old chosen tried : List ℕ) (k : ℕ) : Type 0 where
+  pub few : length tried ≤ k
   pub restored : set chosen place (get_or old place 0) ≡ old
-  pub long : length tried ≡ max_classes
-  pub passed : Tried M q (take place old) (drop (place + 1) upper) (take tries tried)
+  pub passed : Tried M q (take place old) (drop (place + 1) upper) tried
   pub left : stop_in M q (take place old) (drop place upper) ≡ remaining M q (take place old) (get_or upper place 0) (drop (place + 1) upper) k
 
-pub behind_none : {M : Model} {q : Question} {place : ℕ} {upper : List ℕ} (old tried : List ℕ) → place < length upper → length tried ≡ max_classes
-    → Behind M q place upper old old tried 0 0
-behind_none {place = place} old tried h e =
+pub behind_none : {M : Model} {q : Question} {place : ℕ} {upper : List ℕ} (old : List ℕ) → place < length upper → Behind M q place upper old old [] 0
+behind_none {place = place} old h =
     record {
-      within = omega arith;
       few = omega arith;
       restored = set-get_or old place 0;
-      long = e;
       passed = tried_none;
       left = search_opens _ _ _ _ _ h;
     }
 
-module _ {M : Model} {q : Question} {place : ℕ} {upper old chosen tried : List ℕ} {tries k : ℕ} (w : Wellformed M) (b : Behind M q place upper old chosen tried tries k) where
+module _ {M : Model} {q : Question} {place : ℕ} {upper old chosen tried : List ℕ} {k : ℕ} (b : Behind M q place upper old chosen tried k) where
   -- the tuple is as long, and has the places before this one
   pub behind_kept : (length chosen ≡ length old) × (take place chosen ≡ take place old)
   behind_kept = (
@@ -99,30 +94,20 @@ module _ {M : Model} {q : Question} {place : ℕ} {upper old chosen tried : List
     sym (take-set-le place chosen place (get_or old place 0) (omega arith)) ∙ ap (take place) b.restored,
   )
 
-  -- the tried classes are the bundle's
-  pub behind_tried : (j : ℕ) → j < tries → Memᴰ (get_or tried j 0) (take tries tried) × (get_or tried j 0 < M.classes)
-  behind_tried j h =
-      let inside : j < length (take tries tried) = omega (arith, length-take-le tries tried (omega (arith, b.within, b.few, b.long, w.classes_limit))) in
-      let same = get_or-take tries tried j 0 h in
-      (rw same at (get_d_mem (take tries tried) j 0 inside), rw same at (class_below M (take tries tried) b.passed.classes j inside))
-
   -- class k is passed over where that leaves what is found
-  pub behind_over : k < M.classes
-      → remaining M q (take place old) (get_or upper place 0) (drop (place + 1) upper) k ≡ remaining M q (take place old) (get_or upper place 0) (drop (place + 1) upper) (k + 1)
-      → Behind M q place upper old chosen tried tries (k + 1)
-  behind_over h e =
-      record { within = omega arith; few = omega (arith, b.few); restored = b.restored; long = b.long; passed = b.passed; left = b.left ∙ e }
+  pub behind_over : remaining M q (take place old) (get_or upper place 0) (drop (place + 1) upper) k ≡ remaining M q (take place old) (get_or upper place 0) (drop (place + 1) upper) (k + 1)
+      → Behind M q place upper old chosen tried (k + 1)
+  behind_over e =
+      record { few = omega (arith, b.few); restored = b.restored; passed = b.passed; left = b.left ∙ e }
 
   -- and is one of the tried where its search finds nothing
   pub behind_more : k < M.classes → candidate_class M (get_or upper place 0) k ≡ true → stop_in M q (take place old ++ (k ∷ [])) (drop (place + 1) upper) ≡ none
-      → {after : List ℕ} → after ≡ set chosen place k → Behind M q place upper old after (set tried tries k) (tries + 1) (k + 1)
+      → {after : List ℕ} → after ≡ set chosen place k → Behind M q place upper old after (tried ++ (k ∷ [])) (k + 1)
   behind_more h e u s =
       record {
-        within = omega arith;
-        few = omega (arith, b.few);
+        few = omega (arith, b.few, length-append tried (k ∷ []));
         restored = ap (λ (xs : List ℕ). set xs place (get_or old place 0)) s ∙ set-set chosen place _ _ ∙ b.restored;
-        long = length-set tried tries k ∙ b.long;
-        passed = subst (Tried _ _ _ _) (sym (chosen_more tried tries k (omega (arith, b.few, w.classes_limit, b.long)))) (tried_more b.passed k h u);
+        passed = tried_more b.passed k h u;
         left = b.left ∙ class_passed _ _ _ _ _ k h e u;
       }
 
@@ -130,16 +115,30 @@ module _ {M : Model} {q : Question} {place : ℕ} {upper old chosen tried : List
   pub behind_all : k ≡ M.classes → Ends M q (take place old) (drop place upper) old (set chosen place (get_or old place 0)) false
   behind_all e = (b.left ∙ ap (remaining M q (take place old) (get_or upper place 0) (drop (place + 1) upper)) e ∙ search_ends _ _ _ _ _, b.restored)
 
+-- The tuple with class k at the next place is as long, so that one place less is to be filled, and its search ends as one with the places before it and k filled.
+module _ {M : Model} {q : Question} {upper old chosen tried : List ℕ} {k : ℕ} (unfilled : ℕ) (some : 0 < unfilled) (within : unfilled ≤ length old)
+    (b : Behind M q (length old - unfilled) upper old chosen tried k) where
+  pub next_filled : (length (set chosen (length old - unfilled) k) ≡ length old) × (length (set chosen (length old - unfilled) k) - (unfilled - 1) ≡ length old - unfilled + 1)
+  next_filled = let same = length-set chosen (length old - unfilled) k ∙ (behind_kept b).0 in (same, omega (arith, same))
+
+  pub next_ended : (after : List ℕ) (r : Bool) → let next = set chosen (length old - unfilled) k in
+      Ends M q (take (length next - (unfilled - 1)) next) (drop (length next - (unfilled - 1)) upper) next after r
+      → Ends M q (take (length old - unfilled) old ++ (k ∷ [])) (drop (length old - unfilled + 1) upper) next after r
+  next_ended after r e =
+      let more = chosen_more chosen (length old - unfilled) k (omega (arith, (behind_kept b).0)) ∙ ap (λ (xs : List ℕ). xs ++ (k ∷ [])) (behind_kept b).1 in
+      rw (next_filled.1, more) at e
+
 -- a class that the tables show to be alike to one of them does not stop it either
 pub alike_passed : {M : Model} {q : Question} {place : ℕ} {chosen order admits holds set : List ℕ} → Wellformed M → Tables M q order admits holds
     → Filling M q place chosen order set → place < places → {rest tried : List ℕ} → Tried M q (take place chosen) rest tried
-    → (a k : ℕ) → a < M.classes → k < M.classes → Memᴰ a tried → AlikeIn admits holds set place a k
-    → stop_in M q (take place chosen ++ (k ∷ [])) rest ≡ none
+    → (k : ℕ) → k < M.classes → SomeAlike admits holds set place tried (length tried) k → stop_in M q (take place chosen ++ (k ∷ [])) rest ≡ none
 unfolding classes_by
-alike_passed {M} {q} {place} {chosen} w tables g h {rest} d a k l r m e =
+alike_passed {M} {q} {place} {chosen} w tables g h {rest} {tried} d k r (j, v, e) =
+    let a = get_or tried j 0 in
+    let l = class_below M tried d.classes j v in
     let filled = take place chosen in
     let long : place ≡ length filled = sym (length-take-le place chosen g.within) in
     let at : (ℕ → List ℕ) → ℕ → Type 0 = λ classes i. alike_at M classes i (applicable_so_far M (function_of M q) filled) a k ≡ true in
     let specialised = subst (at M.specialisers) long (alike_left tables.ordered g w false tables.admitting h a k l r e.specialised) in
     let declared = subst (at (classes_by (by_declared q) M)) long (alike_left tables.ordered g w (by_declared q) tables.holding h a k l r e.declared) in
-    sym (alike_completed M q filled rest a k specialised declared) ∙ d.passed a m
+    sym (alike_completed M q filled rest a k specialised declared) ∙ d.passed a (get_d_mem tried j 0 v)

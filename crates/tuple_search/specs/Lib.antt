@@ -1,2 +1,4 @@
+pub mod Leads
 pub mod Questions
 pub mod Search
+pub mod Searches

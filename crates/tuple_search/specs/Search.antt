@@ -1,8 +1,11 @@
 -- The search for a tuple at which the answer to a question is no, with the first places of the tuple filled.
 -- Assumes nothing.
-use Rattle.std.specs.Prelude.{ℕ, ◌≤◌, ◌<◌, ◌≡◌, Bool, true, false, List, ◌++◌, length, take}
+use Rattle.std.specs.Prelude.{ℕ, ◌≤◌, ◌<◌, ◌≡◌, Bool, true, false, List, [], ◌++◌, length, take}
+use Rattle.std.specs.Prelude as std
+use mathlib.Core.Logic.{∥∥₁_prop}
 use Rattle.std.proofs.Math.Option.{Option, none, some}
 use Rattle.rules.specs.Bounded.{first}
+use Rattle.rules.specs.Layout.{places}
 use Rattle.rules.specs.Model.{Model, present}
 use Rattle.rules.specs.Lookup.{left}
 use Rattle.rules.specs.Coverage.{tuples}
@@ -22,6 +25,13 @@ pub record Tables (M : Model) (q : Question) (order admits holds : List ℕ) : T
   pub admitting : Tabled false M order admits
   pub holding : Tabled (by_declared q) M order holds
 
+-- a question about the bundle goes by these; which proof there is of it is forgotten, so that a value can carry it
+abbrev pub GoesBy : Model → Question → List ℕ → List ℕ → List ℕ → Type 0
+GoesBy M q order admits holds = ∥ About M q × Tables M q order admits holds ∥₁
+
+pub GoesBy-prop : (M : Model) (q : Question) (order admits holds : List ℕ) → IsProp (GoesBy M q order admits holds)
+GoesBy-prop M q order admits holds = ∥∥₁_prop
+
 -- The first places of a tuple are filled; the set holds the methods that are left.
 pub record Filling (M : Model) (q : Question) (place : ℕ) (chosen order set : List ℕ) : Type 0 where
   pub about : About M q
@@ -34,3 +44,8 @@ pub record Filling (M : Model) (q : Question) (place : ℕ) (chosen order set : 
 abbrev pub Ends : Model → Question → List ℕ → List ℕ → List ℕ → List ℕ → Bool → Type 0
 Ends M q filled rest old new false = (stop_in M q filled rest ≡ none) × (new ≡ old)
 Ends M q filled rest old new true = (t : List ℕ) × (stop_in M q filled rest ≡ some t) × (new ≡ filled ++ t)
+
+-- With no place filled before: it stops at none of the tuples below the upper classes, or at the first, which an array has at its first places.
+abbrev pub FirstStop : Model → Question → List ℕ → std.Option (List ℕ) → Type 0
+FirstStop M q upper std.None = stop_in M q [] upper ≡ none
+FirstStop M q upper (std.Some tuple) = (length tuple ≡ places) × (stop_in M q [] upper ≡ some (take (length upper) tuple))

@@ -6,3 +6,4 @@ mod alike;
 mod leader;
 pub mod question;
 pub mod search;
+pub mod tables;

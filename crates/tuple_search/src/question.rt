@@ -1,18 +1,15 @@
 // What a search asks of tuples of classes.
 ghost use Rattle.std.specs.Prelude.{◌≡◌};
-ghost use Rattle.rules.specs.Model.{model_of};
 ghost use Rattle.rules.specs.Lookup.{lookup};
-ghost use Rattle.rules.specs.Rough.{is_method, is_failure};
-ghost use Rattle.layout.specs.Opened.{Opened};
-ghost use Rattle.subclasses.specs.Prepared.{Prepared};
+ghost use Rattle.layout.specs.Bundles.{model};
 ghost use Rattle.subclasses.specs.Places.{Arguments};
 ghost use Rattle.dispatch.specs.Found.{found_of};
 ghost use Rattle.tuple_search.specs.Questions.{About, function_of, stops_at};
 
-use coverage_rule::judge::{fails, judge_found};
-use dispatch::select::Found;
-use layout::bundle::Bundle;
-use layout::field::sig_function;
+use answers::failure::NotFound;
+use coverage_rule::judge::judge_found;
+use layout::open::OpenBundle;
+use subclasses::prepared::PreparedBundle;
 
 // That the coverage rule of a signature holds; that a send of a function finds a method; that it finds this method.
 #[derive(Clone, Copy)]
@@ -22,57 +19,38 @@ pub enum Question {
     FindsOnly(usize, usize),
 }
 
-// Whether none is found, or two.
-fn is_failure(found: Found) -> bool
-    ensures { result ≡ is_failure (found_of found) }
-{
-    match found {
-        Found::Method(_) => false,
-        Found::Fails(_) => true,
+impl Question {
+    // The function whose sends are asked about.
+    pub(crate) fn function(self, bundle: &OpenBundle<'_>) -> usize
+        requires { About (model bundle.now) self }
+        ensures { result ≡ function_of (model bundle.now) self }
+    {
+        match self {
+            Question::Rule(s) => bundle.sig_function(s),
+            Question::Finds(f) => f,
+            Question::FindsOnly(f, _) => f,
+        }
     }
-}
 
-// Whether method m is found.
-fn is_method(found: Found, m: usize) -> bool
-    ensures { result ≡ is_method m (found_of found) }
-{
-    match found {
-        Found::Method(n) => n == m,
-        Found::Fails(_) => false,
-    }
-}
-
-// The function whose sends are asked about.
-pub(crate) fn function_of(bytes: &[u8], b: Bundle, q: Question) -> usize
-    requires opened { Opened bytes.now b }
-    requires about { About (model_of bytes.now) q }
-    ensures { result ≡ function_of (model_of bytes.now) q }
-{
-    match q {
-        Question::Rule(s) => sig_function(bytes, b, s),
-        Question::Finds(f) => f,
-        Question::FindsOnly(f, _) => f,
-    }
-}
-
-// Whether the answer is no for arguments for which lookup finds this.
-pub(crate) fn stops_at(
-    bytes: &[u8],
-    b: Bundle,
-    scratch: &[u8],
-    q: Question,
-    args: &[u8],
-    found: Found,
-) -> bool
-    requires prepared { Prepared bytes.now b scratch.now }
-    requires about { About (model_of bytes.now) q }
-    requires arguments { Arguments (model_of bytes.now) (function_of (model_of bytes.now) q) args.now }
-    requires found_value { found_of found ≡ lookup (model_of bytes.now) (function_of (model_of bytes.now) q) args.now }
-    ensures { result ≡ stops_at (model_of bytes.now) q args.now }
-{
-    match q {
-        Question::Rule(s) => fails(judge_found(bytes, b, scratch, s, args, found)),
-        Question::Finds(_) => is_failure(found),
-        Question::FindsOnly(_, m) => !is_method(found, m),
+    // Whether the answer is no for arguments for which lookup finds this.
+    pub(crate) fn stops_at(
+        self,
+        prepared: &PreparedBundle<'_>,
+        args: &[u8],
+        found: Result<usize, NotFound>,
+    ) -> bool
+        requires about { About (model prepared.now.bundle) self }
+        requires arguments { Arguments (model prepared.now.bundle) (function_of (model prepared.now.bundle) self) args.now }
+        requires found_value { found_of found ≡ lookup (model prepared.now.bundle) (function_of (model prepared.now.bundle) self) args.now }
+        ensures { result ≡ stops_at (model prepared.now.bundle) self args.now }
+    {
+        match self {
+            Question::Rule(s) => judge_found(prepared, s, args, found).is_err(),
+            Question::Finds(_) => found.is_err(),
+            Question::FindsOnly(_, m) => match found {
+                Ok(n) => n != m,
+                Err(_) => true,
+            },
+        }
     }
 }

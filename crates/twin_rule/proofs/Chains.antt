@@ -9,6 +9,7 @@ use mathlib.Core.Bool.{Bool, true, false}
 use mathlib.Core.Logic.{◌⊎◌, inl, inr}
 use mathlib.Core.List.{List}
 use lib.Dec.{ltb}
+use Rattle.std.proofs.Common.{Option, None, Some, SomeIff}
 use lib.ListN.{length, get_or, set, replicate, length-set, length-replicate, get_or-replicate}
 use lib.Seq.{get_or-set_same, get_or-set_other}
 use borrow.Author.Tests.{ltb-true, ltb-false}
@@ -84,6 +85,16 @@ module _ (b : List ℕ) where
 pub chained_of : {b chains : List ℕ} → Chained b chains → ChainedBelow b chains (method_count b)
 chained_of (chained i) = i
 
+-- the entry that leads to a method, or to none
+abbrev pub entry_to : Option ℕ → ℕ
+entry_to None = 0
+entry_to (Some n) = n + 1
+
+-- the method that an entry leads to, read from it
+pub entry_read : (e : ℕ) (next : Option ℕ) → SomeIff next (1 ≤ e) (e - 1) → entry_to next ≡ e
+entry_read e None h = grind arith
+entry_read e (Some n) h = omega arith
+
 -- A walk down the chain of method m's bucket: no method from e on and below m is its twin, and the one before e is of the bucket.
 pub record Walking (b : List ℕ) (m e : ℕ) : Type 0 where
   pub within : e ≤ m
@@ -91,10 +102,6 @@ pub record Walking (b : List ℕ) (m e : ℕ) : Type 0 where
   pub passed : (j : ℕ) → e ≤ j → j < m → twins b m j ≡ false
 
 module _ {b : List ℕ} {t : Bundle} (placed : Placed b t) {chains : List ℕ} (i : Chained b chains) where
-  -- every method has its entry
-  pub has_entry : (m : ℕ) → m < t.methods → buckets + m < length chains
-  has_entry m low = omega (arith, (chained_of i).long, placed.methods_limit)
-
   module _ (m : ℕ) (low : m < t.methods) where
     -- a method of another bucket is no twin
     apart : (j : ℕ) → j < m → (bucket_of b j ≡ bucket_of b m → ⊥) → twins b m j ≡ false
@@ -105,26 +112,26 @@ module _ {b : List ℕ} {t : Bundle} (placed : Placed b t) {chains : List ℕ} (
         let n = (chained_of i).goes_on m (omega (arith, placed.tables.methods)) in
         record { within = n.within; of_bucket = n.found; passed = λ j p l. apart j l (n.above j p l) }
 
-    -- from a method that is no twin to the next lower one of the bucket
-    module _ (e : ℕ) (some : 0 < e) (w : Walking b m e) where
-      next_lower : Highest b (bucket_of b (e - 1)) (e - 1) (get_or chains (buckets + (e - 1)) 0)
-      next_lower = (chained_of i).goes_on (e - 1) (omega (arith, w.within, placed.tables.methods))
+    -- from method n, which is no twin, to the next lower one of the bucket
+    module _ (n : ℕ) (w : Walking b m (n + 1)) where
+      next_lower : Highest b (bucket_of b n) n (get_or chains (buckets + n) 0)
+      next_lower = (chained_of i).goes_on n (omega (arith, w.within, placed.tables.methods))
 
-      pub walk_falls : get_or chains (buckets + (e - 1)) 0 < e
-      walk_falls = omega (arith, next_lower.within)
+      same_bucket : bucket_of b n ≡ bucket_of b m
+      same_bucket = let one : n + 1 - 1 ≡ n = omega arith in rw one at (w.of_bucket (omega arith))
 
-      pub walk_next : twins b m (e - 1) ≡ false → Walking b m (get_or chains (buckets + (e - 1)) 0)
+      pub walk_next : twins b m n ≡ false → Walking b m (get_or chains (buckets + n) 0)
       walk_next differs =
           record {
             within = omega (arith, next_lower.within, w.within);
-            of_bucket = λ l. next_lower.found l ∙ w.of_bucket some;
-            passed = λ j p l. go j p l (ltb j (e - 1)) refl;
+            of_bucket = λ l. next_lower.found l ∙ same_bucket;
+            passed = λ j p l. go j p l (ltb j n) refl;
           }
         where
-          at_least : (j : ℕ) → j < m → (e - 1 ≡ j) ⊎ (e - 1 < j) → twins b m j ≡ false
+          at_least : (j : ℕ) → j < m → (n ≡ j) ⊎ (n < j) → twins b m j ≡ false
           at_least j l (inl q) = rw (← q) differs
           at_least j l (inr h) = w.passed j (omega arith) l
 
-          go : (j : ℕ) → get_or chains (buckets + (e - 1)) 0 ≤ j → j < m → (t : Bool) → ltb j (e - 1) ≡ t → twins b m j ≡ false
-          go j p l true q = apart j l (λ s. next_lower.above j p (ltb-true j (e - 1) q) (s ∙ sym (w.of_bucket some)))
-          go j p l false q = at_least j l (eq-or-lt_of_le (ltb-false j (e - 1) q))
+          go : (j : ℕ) → get_or chains (buckets + n) 0 ≤ j → j < m → (t : Bool) → ltb j n ≡ t → twins b m j ≡ false
+          go j p l true q = apart j l (λ s. next_lower.above j p (ltb-true j n q) (s ∙ sym same_bucket))
+          go j p l false q = at_least j l (eq-or-lt_of_le (ltb-false j n q))

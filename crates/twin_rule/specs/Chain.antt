@@ -1,6 +1,8 @@
 -- The methods of a bucket as a chain, by which twins are looked for among a few methods.
 -- Assumes nothing.
 use Rattle.std.specs.Prelude.{ℕ, ◌+◌, ◌*◌, ◌-◌, ◌%◌, ◌≤◌, ◌<◌, ◌≡◌, List, length, get_or}
+use mathlib.Core.Path.{ap}
+use denote.Struct.Props.{props}
 use Rattle.rules.specs.Bytes.{word}
 use Rattle.rules.specs.Layout.{max_methods, method_at, method_count}
 
@@ -27,3 +29,9 @@ pub record ChainedBelow (b chains : List ℕ) (k : ℕ) : Type 0 where
 -- all of them are; a data type, so that proofs pass it on whole
 pub data Chained (b chains : List ℕ) : Type 0 where
   chained : ChainedBelow b chains (method_count b) → Chained b chains
+
+-- there is one proof of it at most, so that a value can carry it
+pub Chained-prop : (b chains : List ℕ) → IsProp (Chained b chains)
+Chained-prop b chains (chained x) (chained y) =
+    let below : IsProp (ChainedBelow b chains (method_count b)) = hlevel props in
+    ap chained (below x y)

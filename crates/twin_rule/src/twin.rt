@@ -1,45 +1,52 @@
 // Number 8: methods of a function with the same specialisers.
-ghost use Rattle.std.specs.Prelude.{◌≡◌, not, ◌<◌};
-ghost use Rattle.rules.specs.Layout.{twins, twin_rule};
-ghost use Rattle.layout.specs.Tables.{Placed};
-ghost use Rattle.twin_rule.specs.Chain.{Chained};
+ghost use Rattle.std.specs.Prelude.{◌≡◌, not, ◌<◌, length};
+ghost use Rattle.rules.specs.Layout.{places, specialiser_tuple_of, twins, twin_rule};
 
 use crate::bucket::BUCKETS;
+use crate::chain::ChainedRecords;
 use layout::bundle::Bundle;
 use layout::bytes::part;
-use layout::record::{function, specialiser_tuple_at};
+use layout::open::Records;
 use layout::tuple::each_same;
 
-// Whether methods m and n are of one function and have equal specialisers.
-fn are_twins(bytes: &[u8], b: Bundle, m: usize, n: usize) -> bool
-    requires placed { Placed bytes.now b }
-    requires m_lt_methods { m < b.methods }
-    requires n_lt_methods { n < b.methods }
-    ensures { result ≡ twins bytes.now m n }
+// What method m has at the places of its specialisers.
+#[tactic(auto, unfolding(rules::specs::Layout::specialiser_tuple_of))]
+fn specialisers<'a>(records: &Records<'a>, m: usize) -> &'a [u8]
+    requires { m < records.now.tables.methods }
+    ensures { (result.now ≡ specialiser_tuple_of records.now.bytes.now m) × (length result.now ≡ places) }
 {
-    if function(bytes, b, m) != function(bytes, b, n) {
-        return false;
-    }
-    each_same(
-        part(bytes, specialiser_tuple_at(bytes, b, m), Bundle::PLACES),
-        part(bytes, specialiser_tuple_at(bytes, b, n), Bundle::PLACES),
+    part(
+        records.bytes,
+        records.specialiser_tuple_at(m),
+        Bundle::PLACES,
     )
 }
 
-// Whether an earlier method is a twin of method m: one of those before it in the chain of its bucket.
-pub fn has_twin(bytes: &[u8], b: Bundle, chains: &[u16], m: usize) -> bool
-    requires placed { Placed bytes.now b }
-    requires chained { Chained bytes.now chains.now }
-    requires m_lt_methods { m < b.methods }
-    ensures { result ≡ not (twin_rule bytes.now m) }
+// Whether methods m and n are of one function and have equal specialisers.
+#[tactic(auto, unfolding(rules::specs::Layout::twins))]
+fn are_twins(records: &Records<'_>, m: usize, n: usize) -> bool
+    requires m_lt_methods { m < records.now.tables.methods }
+    requires n_lt_methods { n < records.now.tables.methods }
+    ensures { result ≡ twins records.now.bytes.now m n }
 {
-    let mut next = chains[BUCKETS + m] as usize;
-    while 0 < next {
-        let n = next - 1;
-        if are_twins(bytes, b, m, n) {
-            return true;
+    records.function(m) == records.function(n)
+        && each_same(specialisers(records, m), specialisers(records, n))
+}
+
+impl ChainedRecords<'_> {
+    // Whether an earlier method is a twin of method m: one of those before it in the chain of its bucket.
+    pub fn has_twin(&self, m: usize) -> bool
+        requires { m < self.now.records.tables.methods }
+        ensures { result ≡ not (twin_rule self.now.records.bytes.now m) }
+    {
+        // A `while let`: the walk follows the entries of the chain, and not a range.
+        let mut next = usize::from(self.chains[BUCKETS + m]).checked_sub(1);
+        while let Some(n) = next {
+            if are_twins(&self.records, m, n) {
+                return true;
+            }
+            next = usize::from(self.chains[BUCKETS + n]).checked_sub(1);
         }
-        next = chains[BUCKETS + n] as usize;
+        false
     }
-    false
 }

@@ -1,23 +1,24 @@
 -- The bytes of a type's row, what joining a class's type to it makes of them, and rows one after the other.
 -- Assumes nothing.
-use Prim.Native.Nat.{ℕ, ◌+◌, ◌*◌, ◌-◌, ◌≤◌, ◌<◌}
+use Prim.Native.Nat.{ℕ, ◌+◌, ◌≤◌, ◌<◌}
 use native.Mathlib.Nat.{eq-or-lt_of_le}
 use native.Mathlib.Omega.{arith}
+use borrow.Author.Count.{below_none, below_more}
 use mathlib.Core.Path.{◌≡◌, refl, sym, ap, ◌∙◌}
 use mathlib.Core.Bool.{Bool, true, false, cond, ◌||◌}
 use mathlib.Core.Logic.{◌⊎◌, inl, inr}
 use mathlib.Core.List.{List, [], ◌∷◌, ◌++◌}
-use lib.ListN.{length, get_or, take, drop, length-append, length-drop, get_or-append}
+use lib.ListN.{length, get_or, take, drop, set, length-append, length-drop, length-set, get_or-append}
 use lib.Seq.{length-take-le, get_or-take, get_or-drop, get_or-append-add, get_or-append_seam}
-use borrow.Rule.Slice.PartMut.{mid_of, put_mid}
+use Rattle.std.proofs.Common.{get_or-set_same, get_or-set_other, replicate}
+use Rattle.std.proofs.lemmas.List.{get_or-replicate}
 use Rattle.rules.specs.Bounded.{any}
 use Rattle.rules.specs.Model.{Model}
 use Rattle.rules.specs.Subclass.{subclass}
 use Rattle.rules.specs.Types.{Static, in_type}
-use Rattle.rules.specs.Calls.{row_bytes, overwrite}
+use Rattle.rules.specs.Calls.{row_bytes}
 use Rattle.rules.specs.Bits.{bit}
-use Rattle.rules.proofs.Overwrite.{lent_back, overwrite_length, overwrite_at, overwrite_agree, overwrite_twice}
-use Rattle.typing.specs.Rows.{type_byte, no_byte, same_byte, joined, joined_byte, Rows}
+use Rattle.typing.specs.Rows.{type_byte, RowOf, joined, Joined, Rows}
 
 -- one class more in a type: it is in the type or under the new class
 in_type_snoc : (M : Model) (t : Static) (c k : ℕ) → in_type M (t ++ (c ∷ [])) k ≡ (in_type M t k || subclass M c k)
@@ -45,99 +46,76 @@ joined_type : (M : Model) (t : Static) (c k : ℕ) → joined M c k (type_byte M
 unfolding joined type_byte
 joined_type M t c k = joined_bit (in_type M t k) (subclass M c k) ∙ ap bit (sym (in_type_snoc M t c k))
 
--- a row as each of the three writers leaves it
-pub row_empty : (M : Model) (old : List ℕ) → overwrite row_bytes no_byte old ≡ overwrite row_bytes (type_byte M []) old
-unfolding no_byte type_byte in_type any bit
-row_empty M old = refl
+-- the row of the empty type, and what joining a class's type makes of a row
+pub row_empty : (M : Model) → RowOf M [] (replicate row_bytes 0)
+unfolding type_byte in_type any bit
+row_empty M = record { long = refl; byte = λ k h. get_or-replicate row_bytes k 0 0 h }
 
-pub row_joined : (M : Model) (t : Static) (c : ℕ) (old row : List ℕ) → row ≡ overwrite row_bytes (type_byte M t) old
-    → overwrite row_bytes (joined_byte M c row) row ≡ overwrite row_bytes (type_byte M (t ++ (c ∷ []))) old
-unfolding joined_byte
-row_joined M t c old row e =
-    overwrite_agree row_bytes (joined_byte M c row) (type_byte M (t ++ (c ∷ []))) row
-    (λ k h. ap (joined M c k) (rw e (overwrite_at row_bytes (type_byte M t) old k h)) ∙ joined_type M t c k)
-    ∙ rw e (overwrite_twice row_bytes (type_byte M (t ++ (c ∷ []))) (type_byte M t) old)
+pub row_joined : (M : Model) (t : Static) (c : ℕ) (old new : List ℕ) → RowOf M t old → Joined M c old new → RowOf M (t ++ (c ∷ [])) new
+row_joined M t c old new r n = record { long = n.long ∙ r.long; byte = λ k h. n.byte k h ∙ ap (joined M c k) (r.byte k h) ∙ joined_type M t c k }
 
-pub row_copied : (M : Model) (t : Static) (from before old : List ℕ) → from ≡ overwrite row_bytes (type_byte M t) before
-    → overwrite row_bytes (same_byte from) old ≡ overwrite row_bytes (type_byte M t) old
-unfolding same_byte
-row_copied M t from before old e =
-    overwrite_agree row_bytes (same_byte from) (type_byte M t) old (λ k h. rw e (overwrite_at row_bytes (type_byte M t) before k h))
+-- A row that is joined byte by byte: the bytes before k are joined, and the others are as they were.
+pub record Joining (M : Model) (c : ℕ) (old row : List ℕ) (k : ℕ) : Type 0 where
+  pub long : length row ≡ length old
+  pub done : (i : ℕ) → i < k → get_or row i 0 ≡ joined M c i (get_or old i 0)
+  pub left : (i : ℕ) → k ≤ i → get_or row i 0 ≡ get_or old i 0
+
+module _ (M : Model) (c : ℕ) (old : List ℕ) where
+  pub joining_none : Joining M c old old 0
+  joining_none = record { long = refl; done = below_none _; left = λ i h. refl }
+
+  pub joining_more : (row : List ℕ) (k v : ℕ) → k < length row → v ≡ joined M c k (get_or row k 0) → Joining M c old row k → Joining M c old (set row k v) (k + 1)
+  joining_more row k v l e j =
+      record {
+        long = length-set row k v ∙ j.long;
+        done = below_more _ _
+            (λ i h. let other : i ≡ k → ⊥ = omega arith in rw (get_or-set_other row k i v 0 other) (j.done i h))
+            (rw (get_or-set_same row k v 0 l) (e ∙ ap (joined M c k) (j.left k (omega arith))));
+        left = λ i h. let other : i ≡ k → ⊥ = omega arith in rw (get_or-set_other row k i v 0 other) (j.left i (omega arith));
+      }
+
+  pub joining_all : (row : List ℕ) (k : ℕ) → row_bytes ≤ k → Joining M c old row k → Joined M c old row
+  joining_all row k l j = record { long = j.long; byte = λ i h. j.done i (omega arith) }
 
 -- Rows one after the other.
 
--- the rows once row h holds a type, the others as they were
-unfoldable pub stacked : Model → Static → ℕ → List ℕ → List ℕ
-stacked M t h rows = take (row_bytes * h) rows ++ overwrite row_bytes (type_byte M t) (drop (row_bytes * h) rows)
+pub rows_none : (M : Model) → Rows M [] []
+rows_none M = record { long = refl; holds = λ i h. absurd (omega (arith, h)) }
 
-pub rows_none : (M : Model) (rows : List ℕ) → Rows M rows []
-rows_none M rows = record { long = omega arith; holds = λ i h. absurd (omega (arith, h)) }
-
--- the rows from one on, lent and given back
-pub stacked_back : (M : Model) (t : Static) (h : ℕ) (rows part : List ℕ)
-    → part ≡ overwrite row_bytes (type_byte M t) (mid_of (row_bytes * h) (length rows - row_bytes * h) rows)
-    → put_mid (row_bytes * h) (length rows - row_bytes * h) rows part ≡ stacked M t h rows
-unfolding stacked
-stacked_back M t h rows part e = lent_back (row_bytes * h) rows row_bytes (type_byte M t) part e
-
-module _ (M : Model) (rows : List ℕ) where
-  pub stacked_length : (t : Static) (h : ℕ) → row_bytes * h + row_bytes ≤ length rows → length (stacked M t h rows) ≡ length rows
-  unfolding stacked
-  stacked_length t h l =
-      rw (length-append, length-take-le (row_bytes * h) rows (omega arith), overwrite_length row_bytes (type_byte M t) (drop (row_bytes * h) rows) (rw length-drop (omega arith)), length-drop)
-      (omega arith)
-
-  -- a type is put above those that the rows hold
-  pub rows_push : (types : List Static) (t : Static) → Rows M rows types → row_bytes * length types + row_bytes ≤ length rows
-      → Rows M (stacked M t (length types) rows) (types ++ (t ∷ []))
-  unfolding stacked
-  rows_push types t r l =
+module _ (M : Model) (rows : List (List ℕ)) where
+  -- a row is put behind those that hold types
+  pub rows_push : (types : List Static) (t : Static) (row : List ℕ) → Rows M rows types → RowOf M t row → Rows M (rows ++ (row ∷ [])) (types ++ (t ∷ []))
+  rows_push types t row r o =
       record {
-        long = rw (stacked_length t (length types) l, length-append) (omega arith);
-        holds = λ i h k b. place i k b (eq-or-lt_of_le (count i h));
+        long = rw (length-append, length-append) (omega (arith, r.long));
+        holds = λ i h. place i (eq-or-lt_of_le (count i h));
       }
     where
-      below : List ℕ
-      below = take (row_bytes * length types) rows
-
-      new : List ℕ
-      new = overwrite row_bytes (type_byte M t) (drop (row_bytes * length types) rows)
-
       count : (i : ℕ) → i < length (types ++ (t ∷ [])) → i ≤ length types
       count i h = omega (arith, rw length-append at h)
 
-      size : length below ≡ row_bytes * length types
-      size = length-take-le (row_bytes * length types) rows (omega arith)
-
-      place : (i k : ℕ) → k < row_bytes → (i ≡ length types) ⊎ (i < length types)
-          → get_or (below ++ new) (row_bytes * i + k) 0 ≡ type_byte M (get_or (types ++ (t ∷ [])) i []) k
-      place i k b (inl e) =
-          let at : row_bytes * i + k ≡ length below + k = omega (arith, size) in
-          let type : get_or (types ++ (t ∷ [])) i [] ≡ t = rw e (get_or-append_seam types t [] []) in
-          rw (at, type) (get_or-append-add below new k 0 ∙ overwrite_at row_bytes (type_byte M t) (drop (row_bytes * length types) rows) k b)
-      place i k b (inr e) =
-          let inside : row_bytes * i + k < row_bytes * length types = omega arith in
-          rw (get_or-append types (t ∷ []) [] i e)
-          (get_or-append below new 0 (row_bytes * i + k) (omega (arith, size)) ∙ get_or-take (row_bytes * length types) rows (row_bytes * i + k) 0 inside ∙ r.holds i e k b)
+      place : (i : ℕ) → (i ≡ length types) ⊎ (i < length types) → RowOf M (get_or (types ++ (t ∷ [])) i []) (get_or (rows ++ (row ∷ [])) i [])
+      place i (inl e) =
+          let last : get_or (rows ++ (row ∷ [])) i [] ≡ row = rw (e, ← r.long) (get_or-append_seam rows row [] []) in
+          rw last (rw (e, get_or-append_seam types t [] []) o)
+      place i (inr e) = rw (get_or-append types (t ∷ []) [] i e, get_or-append rows (row ∷ []) [] i (omega (arith, r.long))) (r.holds i e)
 
   -- the rows of the first types, and of the others
-  pub rows_first : (xs ys : List Static) → Rows M rows (xs ++ ys) → Rows M rows xs
-  rows_first xs ys r =
+  pub rows_first : (xs ys : List Static) (n : ℕ) → Rows M rows (xs ++ ys) → n ≡ length xs → Rows M (take n rows) xs
+  rows_first xs ys n r e =
       let whole = length-append xs ys in
       record {
-        long = omega (arith, r.long);
-        holds = λ i h k b. r.holds i (omega arith) k b ∙ ap (λ (u : Static). type_byte M u k) (get_or-append xs ys [] i h);
+        long = length-take-le n rows (omega (arith, r.long)) ∙ e;
+        holds = λ i h. rw (get_or-take n rows i [] (omega arith)) (rw (get_or-append xs ys [] i h) at (r.holds i (omega arith)));
       }
 
-  pub rows_rest : (xs ys : List Static) → Rows M rows (xs ++ ys) → Rows M (drop (row_bytes * length xs) rows) ys
-  rows_rest xs ys r =
+  pub rows_rest : (xs ys : List Static) (n : ℕ) → Rows M rows (xs ++ ys) → n ≡ length ys → Rows M (take n (drop (length xs) rows)) ys
+  rows_rest xs ys n r e =
       let whole = length-append xs ys in
+      let left = length-drop (length xs) rows in
       record {
-        long = rw length-drop (omega (arith, r.long));
-        holds = λ i h k b.
-            let at : row_bytes * length xs + (row_bytes * i + k) ≡ row_bytes * (length xs + i) + k = omega arith in
-            get_or-drop (row_bytes * length xs) rows (row_bytes * i + k) 0
-            ∙ ap (λ (j : ℕ). get_or rows j 0) at
-            ∙ r.holds (length xs + i) (omega arith) k b
-            ∙ ap (λ (u : Static). type_byte M u k) (get_or-append-add xs ys i []);
+        long = length-take-le n (drop (length xs) rows) (omega (arith, r.long)) ∙ e;
+        holds = λ i h.
+            rw (get_or-take n (drop (length xs) rows) i [] (omega arith), get_or-drop (length xs) rows i [])
+            (rw (get_or-append-add xs ys i []) at (r.holds (length xs + i) (omega arith)));
       }

@@ -1,12 +1,13 @@
 -- Licences place by place, and the type of a send signature by signature.
 -- Assumes nothing.
-use Prim.Native.Nat.{ℕ, ◌+◌, ◌*◌, ◌<◌}
+use Prim.Native.Nat.{ℕ, ◌+◌, ◌<◌}
 use native.Mathlib.Omega.{arith}
 use mathlib.Core.Path.{◌≡◌, refl, sym, ap, ◌∙◌}
 use mathlib.Core.Bool.{Bool, true, false, ◌&&◌, false≢true}
 use mathlib.Core.List.{List, [], ◌∷◌, ◌++◌, map}
 use lib.Dec.{eqb}
-use lib.ListN.{length, get_or}
+use lib.ListN.{length, get_or, drop, length-map, get_or-append}
+use Rattle.std.proofs.lemmas.List.{ext_get_or}
 use borrow.Author.Count.{below_none, below_more}
 use borrow.Author.Tests.{eq-eqb, ne_eqb}
 use Rattle.rules.specs.Bounded.{upto, keep, matching}
@@ -14,11 +15,12 @@ use Rattle.rules.specs.Model.{Model}
 use Rattle.rules.specs.Types.{Static, in_type, licenses, licensing, send_type}
 use Rattle.rules.specs.Calls.{row_bytes, overwrite, licensed, row_on}
 use Rattle.rules.specs.Bits.{bit}
-use Rattle.rules.proofs.Lists.{keep_upto_hit, keep_upto_miss, matching_at, matching_from}
-use Rattle.typing.specs.Rows.{type_byte, no_byte, copied_if, joined_byte, Rows}
-use Rattle.typing.specs.Sends.{licenses_for, inhabited, Licensed, Sent}
-use Rattle.rules.proofs.Overwrite.{map_snoc, overwrite_twice}
-use Rattle.typing.proofs.Rows.{row_empty, row_joined, row_copied}
+use Rattle.rules.proofs.Lists.{length_upto, keep_upto_hit, keep_upto_miss, matching_at, matching_from}
+use Rattle.std.specs.Prelude.{Option, Some, None, unwrap_or, replicate}
+use Rattle.typing.specs.Rows.{type_byte, Joined, Rows}
+use Rattle.typing.specs.Sends.{licenses_for, inhabited, Licensed, Given, Sent}
+use Rattle.rules.proofs.Overwrite.{map_snoc, overwrite_at}
+use Rattle.typing.proofs.Rows.{row_empty, row_joined}
 
 -- a bit as it is asked
 pub bit_zero : (t : Bool) → bit t ≡ 0 → t ≡ false
@@ -32,22 +34,22 @@ bit_other true h = refl
 bit_other false h = absurd (h refl)
 
 -- the types at the places before i hold the signature's classes there, whatever types the rows hold
-pub record Passed (M : Model) (rows : List ℕ) (f s i : ℕ) : Type 0 where
+pub record Passed (M : Model) (rows : List (List ℕ)) (f s i : ℕ) : Type 0 where
   pub each : (types : List Static) → Rows M rows types → length types ≡ M.arity f
       → (k : ℕ) → k < i → in_type M (get_or types k []) (get_or (M.sig_args s) k 0) ≡ true
 
-module _ (M : Model) (rows : List ℕ) (f s : ℕ) where
+module _ (M : Model) (rows : List (List ℕ)) (f s : ℕ) where
   pub passed_none : Passed M rows f s 0
   passed_none = record { each = λ types r e. below_none _ }
 
   -- signature s is of function f, and c is its class at place i
   module _ (i c : ℕ) (h : i < M.arity f) (e : c ≡ get_or (M.sig_args s) i 0) (l : c < row_bytes) where
     asked : (types : List Static) → Rows M rows types → length types ≡ M.arity f
-        → get_or rows (row_bytes * i + c) 0 ≡ bit (in_type M (get_or types i []) (get_or (M.sig_args s) i 0))
+        → get_or (get_or rows i []) c 0 ≡ bit (in_type M (get_or types i []) (get_or (M.sig_args s) i 0))
     unfolding type_byte
-    asked types r n = r.holds i (omega arith) c l ∙ ap (λ (k : ℕ). bit (in_type M (get_or types i []) k)) e
+    asked types r n = (r.holds i (omega arith)).byte c l ∙ ap (λ (k : ℕ). bit (in_type M (get_or types i []) k)) e
 
-    pub passed_more : Passed M rows f s i → (get_or rows (row_bytes * i + c) 0 ≡ 0 → ⊥) → Passed M rows f s (i + 1)
+    pub passed_more : Passed M rows f s i → (get_or (get_or rows i []) c 0 ≡ 0 → ⊥) → Passed M rows f s (i + 1)
     passed_more p z =
         record {
           each = λ types r n.
@@ -55,7 +57,7 @@ module _ (M : Model) (rows : List ℕ) (f s : ℕ) where
               (bit_other (in_type M (get_or types i []) (get_or (M.sig_args s) i 0)) (λ q. z (asked types r n ∙ q)));
         }
 
-    pub licensed_broken : length (M.sig_args s) ≡ M.arity f → get_or rows (row_bytes * i + c) 0 ≡ 0 → Licensed M rows f s false
+    pub licensed_broken : length (M.sig_args s) ≡ M.arity f → get_or (get_or rows i []) c 0 ≡ 0 → Licensed M rows f s false
     unfolding licenses_for licenses
     licensed_broken m z = record { answer = λ types r n. both (eqb (M.sig_function s) f) (matching (in_type M) types (M.sig_args s)) (λ q. miss types r n q) }
       where
@@ -87,11 +89,6 @@ module _ (M : Model) (rows : List ℕ) (f s : ℕ) where
 unfoldable pub type_to : Model → ℕ → List Static → ℕ → Static
 type_to M f types s = map M.sig_result (keep (licenses_for M f types) (upto s))
 
-inhabited_snoc : (t : Static) (c : ℕ) → true ≡ inhabited (t ++ (c ∷ []))
-unfolding inhabited
-inhabited_snoc [] c = refl
-inhabited_snoc (d ∷ t) c = refl
-
 module _ (M : Model) (f : ℕ) (types : List Static) where
   type_to_none : type_to M f types 0 ≡ []
   unfolding type_to upto keep
@@ -109,55 +106,62 @@ module _ (M : Model) (f : ℕ) (types : List Static) where
   unfolding type_to send_type licensing licenses_for
   type_to_all = refl
 
--- the row holds that type, and it is said whether it has a class
-pub record Sending (M : Model) (rows : List ℕ) (f : ℕ) (old row : List ℕ) (found : Bool) (s : ℕ) : Type 0 where
-  pub long : length row ≡ length old
-  pub some : (types : List Static) → Rows M rows types → length types ≡ M.arity f → found ≡ inhabited (type_to M f types s)
-  pub held : (types : List Static) → Rows M rows types → length types ≡ M.arity f → row ≡ overwrite row_bytes (type_byte M (type_to M f types s)) old
+-- the row is that of this type, none for the empty one
+pub record Sending (M : Model) (rows : List (List ℕ)) (f : ℕ) (sent : Option (List ℕ)) (s : ℕ) : Type 0 where
+  pub row : (types : List Static) → Rows M rows types → length types ≡ M.arity f → Given M (type_to M f types s) sent
 
--- The loop starts from the cleared row, and what was there before is written over.
-module _ (M : Model) (rows : List ℕ) (f : ℕ) (start : List ℕ) where
-  pub sending_none : (old : List ℕ) → start ≡ overwrite row_bytes no_byte old → Sending M rows f start start false 0
-  unfolding inhabited
-  sending_none old e =
-      record {
-        long = refl;
-        some = λ types r n. rw (type_to_none M f types);
-        held = λ types r n. rw (type_to_none M f types, e, overwrite_twice row_bytes (type_byte M []) no_byte old) (row_empty M old);
-      }
+-- a class more in the type of the row, or in the empty type of a row of zeros
+given_more : (M : Model) (t : Static) (sent : Option (List ℕ)) (next : List ℕ) (c : ℕ) → Given M t sent → Joined M c (unwrap_or sent (replicate row_bytes 0)) next → Given M (t ++ (c ∷ [])) (Some next)
+unfolding Given
+given_more M [] None next c g j = row_joined M [] c (replicate row_bytes 0) next (row_empty M) j
+given_more M [] (Some row) next c g j = absurd g
+given_more M (d ∷ t) None next c g j = absurd g
+given_more M (d ∷ t) (Some row) next c g j = row_joined M (d ∷ t) c row next g j
 
-  pub sending_hit : (row next : List ℕ) (found : Bool) (s c : ℕ) → Sending M rows f start row found s → Licensed M rows f s true → c ≡ M.sig_result s
-      → length next ≡ length row → next ≡ overwrite row_bytes (joined_byte M c row) row → Sending M rows f start next true (s + 1)
-  sending_hit row next found s c p a q l e =
-      record {
-        long = l ∙ p.long;
-        some = λ types r n. rw (type_to_hit M f types s (sym (a.answer types r n))) (inhabited_snoc (type_to M f types s) (M.sig_result s));
-        held = λ types r n.
-            rw (type_to_hit M f types s (sym (a.answer types r n)), ← q)
-            (e ∙ row_joined M (type_to M f types s) c start row (p.held types r n));
-      }
+module _ (M : Model) (rows : List (List ℕ)) (f : ℕ) where
+  pub sending_none : Sending M rows f None 0
+  unfolding Given
+  sending_none = record { row = λ types r n. rw (type_to_none M f types) tt }
 
-  pub sending_miss : (row : List ℕ) (found : Bool) (s : ℕ) → Sending M rows f start row found s → Licensed M rows f s false → Sending M rows f start row found (s + 1)
-  sending_miss row found s p a =
+  pub sending_hit : (sent : Option (List ℕ)) (next : List ℕ) (s c : ℕ) → Sending M rows f sent s → Licensed M rows f s true → c ≡ M.sig_result s
+      → Joined M c (unwrap_or sent (replicate row_bytes 0)) next → Sending M rows f (Some next) (s + 1)
+  sending_hit sent next s c p a q j =
       record {
-        long = p.long;
-        some = λ types r n. rw (type_to_miss M f types s (sym (a.answer types r n))) (p.some types r n);
-        held = λ types r n. rw (type_to_miss M f types s (sym (a.answer types r n))) (p.held types r n);
-      }
-
-  pub sending_all : (old row : List ℕ) (found : Bool) → start ≡ overwrite row_bytes no_byte old → Sending M rows f start row found M.signatures
-      → Sent M rows f old row found
-  sending_all old row found e p =
-      record {
-        some = λ types r n. rw (type_to_all M f types) at (p.some types r n);
         row = λ types r n.
-            rw (type_to_all M f types) at (p.held types r n)
-            ∙ rw e (overwrite_twice row_bytes (type_byte M (send_type M f types)) no_byte old);
+            rw (type_to_hit M f types s (sym (a.answer types r n)), ← q)
+            (given_more M (type_to M f types s) sent next c (p.row types r n) j);
       }
+
+  pub sending_miss : (sent : Option (List ℕ)) (s : ℕ) → Sending M rows f sent s → Licensed M rows f s false → Sending M rows f sent (s + 1)
+  sending_miss sent s p a =
+      record { row = λ types r n. rw (type_to_miss M f types s (sym (a.answer types r n))) (p.row types r n) }
+
+  pub sending_all : (sent : Option (List ℕ)) → Sending M rows f sent M.signatures → Sent M rows f sent
+  sending_all sent p = record { row = λ types r n. rw (type_to_all M f types) at (p.row types r n) }
+
+-- known bytes before the others
+overwrite_known : (n : ℕ) (f : ℕ → ℕ) (old xs : List ℕ) → length xs ≡ n → ((k : ℕ) → k < n → get_or xs k 0 ≡ f k)
+    → xs ++ drop n old ≡ overwrite n f old
+unfolding overwrite
+overwrite_known n f old xs l h =
+    let many : length (map f (upto n)) ≡ n = length-map (upto n) f ∙ length_upto n in
+    let same : xs ≡ map f (upto n) = ext_get_or 0 xs (map f (upto n)) (l ∙ sym many) (λ k b. h k (omega arith) ∙ sym (overwrite_at n f old k (omega arith)) ∙ get_or-append (map f (upto n)) (drop n old) 0 k (omega arith)) in
+    ap (λ (ys : List ℕ). ys ++ drop n old) same
 
 -- the row that the call leaves, with a licence and without
-pub left_row : (M : Model) (t : Static) (r : Bool) (from before row : List ℕ) → r ≡ inhabited t → from ≡ overwrite row_bytes (type_byte M t) before
-    → copied_if r from row ≡ row_on (licensed t) M row
-unfolding inhabited licensed row_on type_byte copied_if
-left_row M [] r from before row e g = rw e
-left_row M (c ∷ t) r from before row e g = rw e (row_copied M (c ∷ t) from before row g)
+module _ (M : Model) (row : List ℕ) where
+  pub left_some : (t : Static) (sent : List ℕ) → Given M t (Some sent)
+      → (true ≡ inhabited t) × (sent ++ drop row_bytes row ≡ row_on (licensed t) M row)
+  unfolding Given inhabited licensed row_on type_byte
+  left_some [] sent g = absurd g
+  left_some (c ∷ t) sent g = (refl, overwrite_known row_bytes (λ k. bit (in_type M (c ∷ t) k)) row sent g.long g.byte)
+
+  pub left_none : (t : Static) → Given M t None → (false ≡ inhabited t) × (row ≡ row_on (licensed t) M row)
+  unfolding Given inhabited licensed row_on
+  left_none [] g = (refl, refl)
+  left_none (c ∷ t) g = absurd g
+
+  pub given_long : (t : Static) (sent : List ℕ) → Given M t (Some sent) → length sent ≡ row_bytes
+  unfolding Given
+  given_long [] sent g = absurd g
+  given_long (c ∷ t) sent g = g.long

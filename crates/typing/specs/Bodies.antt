@@ -1,39 +1,43 @@
 -- The check of a body: the stack of types as rows, an instruction's effect on it, the answer of the check.
 -- Assumes nothing.
-use Rattle.std.specs.Prelude.{ℕ, ◌≡◌, List, reverse, length}
+use Rattle.std.specs.Prelude.{ℕ, ◌≡◌, List, reverse, length, Result, Ok, Err}
 use Rattle.rules.specs.Model.{Model, Instr, send}
 use Rattle.rules.specs.Types.{Static, Typing, typed, breaks, Effect, leaves, breaks_by, effect, ending}
+use Rattle.answers.specs.Numbers.{code_of}
+use Rattle.answers.specs.declared.number.Number.{Number}
 use Rattle.typing.specs.Rows.{Rows}
-use Rattle.typing.specs.declared.body.Typing.{Typing as BodyTyping}
-use Rattle.typing.specs.declared.body.Typing.TheVariants.{Typed, Breaks}
-use Rattle.typing.specs.declared.body.Effect.{Effect as BodyEffect}
-use Rattle.typing.specs.declared.body.Effect.TheVariants.{Leaves, BreaksBy}
+use Rattle.typing.specs.declared.body.BodyError.{BodyError}
 
 -- the answer of the check as the rules give it
-unfoldable pub typing_of : BodyTyping → Typing
-typing_of Typed = typed
-typing_of (Breaks number at) = breaks number at
+unfoldable pub typing_of : Result (Unit {0}) BodyError → Typing
+typing_of (Ok u) = typed
+typing_of (Err e) = breaks (code_of e.number) e.instruction
 
--- the first h rows hold the stack, its top in the highest
-pub record Stack (M : Model) (rows : List ℕ) (h : ℕ) (stack : List Static) : Type 0 where
-  pub height : length stack ≡ h
+-- the rows hold the stack, its top in the highest
+pub record Holds (M : Model) (rows : List (List ℕ)) (stack : List Static) : Type 0 where
+  pub height : length stack ≡ length rows
   pub held : Rows M rows (reverse stack)
 
--- an effect, with the rows that it leaves, is that of the rules
-unfoldable pub Agrees : Model → List ℕ → BodyEffect → Effect → Type 0
-Agrees M rows (Leaves h) (leaves stack) = Stack M rows h stack
-Agrees M rows (Leaves h) (breaks_by number) = ⊥
-Agrees M rows (BreaksBy number) (leaves stack) = ⊥
-Agrees M rows (BreaksBy number) (breaks_by other) = number ≡ other
+-- an effect, with the stack that it leaves, is that of the rules
+unfoldable pub Agrees : Model → List (List ℕ) → Result (Unit {0}) Number → Effect → Type 0
+Agrees M rows (Ok u) (leaves stack) = Holds M rows stack
+Agrees M rows (Ok u) (breaks_by number) = ⊥
+Agrees M rows (Err number) (leaves stack) = ⊥
+Agrees M rows (Err number) (breaks_by other) = code_of number ≡ other
 
 -- what the instruction does to whatever stack the rows hold
-pub record Applied (M : Model) (m : ℕ) (i : Instr) (old : List ℕ) (h : ℕ) (new : List ℕ) (r : BodyEffect) : Type 0 where
-  pub agrees : (stack : List Static) → Stack M old h stack → Agrees M new r (effect M m stack i)
+pub record Applied (M : Model) (m : ℕ) (i : Instr) (old new : List (List ℕ)) (r : Result (Unit {0}) Number) : Type 0 where
+  pub agrees : (stack : List Static) → Holds M old stack → Agrees M new r (effect M m stack i)
 
 -- a send does the same in every method
-pub record AppliedSend (M : Model) (f : ℕ) (old : List ℕ) (h : ℕ) (new : List ℕ) (r : BodyEffect) : Type 0 where
-  pub in_method : (m : ℕ) → Applied M m (send f) old h new r
+pub record AppliedSend (M : Model) (f : ℕ) (old new : List (List ℕ)) (r : Result (Unit {0}) Number) : Type 0 where
+  pub in_method : (m : ℕ) → Applied M m (send f) old new r
+
+-- the answer of the end, as that of an instruction at a place
+unfoldable pub ended_at : ℕ → Result (Unit {0}) Number → Typing
+ended_at at (Ok u) = typed
+ended_at at (Err number) = breaks (code_of number) at
 
 -- what the end of the body says to whatever stack the rows hold
-pub record Ended (M : Model) (m at : ℕ) (rows : List ℕ) (h : ℕ) (r : BodyTyping) : Type 0 where
-  pub says : (stack : List Static) → Stack M rows h stack → typing_of r ≡ ending M m at stack
+pub record Ended (M : Model) (m : ℕ) (rows : List (List ℕ)) (r : Result (Unit {0}) Number) : Type 0 where
+  pub says : (at : ℕ) (stack : List Static) → Holds M rows stack → ended_at at r ≡ ending M m at stack

@@ -1,43 +1,23 @@
-// A static type as a row: byte c of its first 128 is 1 when class c is in the type, and later bytes are left alone.
-ghost use Rattle.std.specs.Prelude.{◌≡◌, true, cond, [], ◌∷◌, ◌*◌, ◌<◌, ◌≤◌, length};
+// A static type as a row: byte c is 1 when class c is in the type, and else 0.
+ghost use Rattle.std.specs.Prelude.{◌≡◌, true, cond, [], ◌∷◌, ◌<◌, ◌≤◌, length};
 ghost use Rattle.rules.specs.Layout.{places, max_classes};
-ghost use Rattle.rules.specs.Model.{model_of, present};
+ghost use Rattle.rules.specs.Model.{present};
 ghost use Rattle.rules.specs.Scratch.{scratch_bytes, entry_at};
-ghost use Rattle.rules.specs.Calls.{row_bytes, overwrite};
-ghost use Rattle.subclasses.specs.Prepared.{Prepared};
-ghost use Rattle.typing.specs.Rows.{type_byte, no_byte, same_byte, joined_byte, Rows, class_types};
+ghost use Rattle.layout.specs.Bundles.{model};
+ghost use Rattle.typing.specs.Rows.{RowOf, Joined, Rows, class_types};
 
+use arrayvec::ArrayVec;
 use layout::bundle::Bundle;
-use layout::bytes::byte_at;
 use subclasses::matrix::{Ancestry, ancestry_of};
+use subclasses::prepared::PreparedBundle;
 
 // The bytes of a row.
 pub const ROW_BYTES: usize = Bundle::CLASSES;
 
-// Makes the row that of the empty type.
-pub(crate) fn clear(row: &mut [u8])
-    requires { row_bytes ≤ length row.old }
-    ensures { row.new ≡ overwrite row_bytes no_byte row.old }
-{
-    let mut k = 0;
-    while k < ROW_BYTES {
-        row[k] = 0;
-        k += 1;
-    }
-}
+pub(crate) type Row = [u8; ROW_BYTES];
 
-// Copies a row.
-pub(crate) fn copy(from: &[u8], row: &mut [u8])
-    requires row_bytes_in_bounds { row_bytes ≤ length from.now }
-    requires row_bytes_in_bounds_2 { row_bytes ≤ length row.old }
-    ensures { row.new ≡ overwrite row_bytes (same_byte from.now) row.old }
-{
-    let mut k = 0;
-    while k < ROW_BYTES {
-        row[k] = from[k];
-        k += 1;
-    }
-}
+// The types on the stack of a body, the top last. A body has no more than 64 instructions, and each leaves at most one type more than it found.
+pub(crate) type Stack = ArrayVec<Row, 64>;
 
 // What the byte of class k becomes when class c's type is joined, by the entry of the scratch.
 fn join_byte(scratch: &[u8], c: usize, k: usize, old: u8) -> u8
@@ -54,56 +34,37 @@ fn join_byte(scratch: &[u8], c: usize, k: usize, old: u8) -> u8
 }
 
 // Joins class c's type to that of the row. All 128 entries are asked: those of absent classes are empty, and a test which are present would take longer.
-pub(crate) fn join(bytes: &[u8], b: Bundle, scratch: &[u8], c: usize, row: &mut [u8])
-    requires prepared { Prepared bytes.now b scratch.now }
-    requires c_lt_classes { c < b.classes }
-    requires row_bytes_in_bounds { row_bytes ≤ length row.old }
-    ensures { row.new ≡ overwrite row_bytes (joined_byte (model_of bytes.now) c row.old) row.old }
+pub(crate) fn join(prepared: &PreparedBundle<'_>, c: usize, row: &mut Row)
+    requires { c < prepared.now.bundle.tables.classes }
+    ensures { Joined (model prepared.now.bundle) c row.old row.new }
 {
-    let mut k = 0;
-    while k < ROW_BYTES {
-        let v = join_byte(scratch, c, k, row[k]);
-        row[k] = v;
-        k += 1;
+    for (k, byte) in row.iter_mut().enumerate() {
+        *byte = join_byte(prepared.scratch, c, k, *byte);
     }
 }
 
-// Makes the row that of class c's type.
-pub(crate) fn class_row(bytes: &[u8], b: Bundle, scratch: &[u8], c: usize, row: &mut [u8])
-    requires prepared { Prepared bytes.now b scratch.now }
-    requires c_lt_classes { c < b.classes }
-    requires row_bytes_in_bounds { row_bytes ≤ length row.old }
-    ensures { row.new ≡ overwrite row_bytes (type_byte (model_of bytes.now) (c ∷ [])) row.old }
+// The row of class c's type.
+pub(crate) fn class_row(prepared: &PreparedBundle<'_>, c: usize) -> Row
+    requires { c < prepared.now.bundle.tables.classes }
+    ensures { RowOf (model prepared.now.bundle) (c ∷ []) result }
 {
-    clear(row);
-    join(bytes, b, scratch, c, row);
+    let mut row = [0; ROW_BYTES];
+    join(prepared, c, &mut row);
+    row
 }
 
-// Writes the rows of the classes' types.
-pub(crate) fn class_rows(bytes: &[u8], b: Bundle, scratch: &[u8], args: &[u8], rows: &mut [u8])
-    requires prepared { Prepared bytes.now b scratch.now }
-    requires args_value { present (model_of bytes.now) args.now ≡ true }
-    requires args_in_bounds { row_bytes * length args.now ≤ length rows.old }
-    ensures { Rows (model_of bytes.now) rows.new (class_types args.now) }
+// The rows of the classes' types, one after the other.
+pub(crate) fn class_rows(
+    prepared: &PreparedBundle<'_>,
+    args: &[u8],
+) -> ArrayVec<Row, { Bundle::PLACES }>
+    requires args_value { present (model prepared.now.bundle) args.now ≡ true }
+    requires args_le_places { length args.now ≤ places }
+    ensures { Rows (model prepared.now.bundle) result.items (class_types args.now) }
 {
-    let mut i = 0;
-    while i < args.len() {
-        let at = ROW_BYTES * i;
-        class_row(bytes, b, scratch, byte_at(args, i), &mut rows[at..]);
-        i += 1;
+    let mut rows = ArrayVec::new();
+    for class in args {
+        rows.push(class_row(prepared, usize::from(*class)));
     }
-}
-
-// A row of no type yet.
-pub(crate) fn one_row() -> [u8; ROW_BYTES]
-    ensures { row_bytes ≡ length result }
-{
-    [0; ROW_BYTES]
-}
-
-// A row for each argument that a send may have.
-pub(crate) fn argument_rows() -> [u8; ROW_BYTES * Bundle::PLACES]
-    ensures { row_bytes * places ≡ length result }
-{
-    [0; ROW_BYTES * Bundle::PLACES]
+    rows
 }

@@ -1,12 +1,12 @@
 -- What searches among the tuples below the upper classes say of the rough answer.
 -- Assumes nothing.
 use Prim.Native.Nat.{ℕ}
-use mathlib.Core.Path.{◌≡◌, sym, ap, ◌∙◌}
-use mathlib.Core.Bool.{Bool, true, false, false≢true}
-use mathlib.Core.Logic.{◌⊎◌, inl, inr}
+use mathlib.Core.Path.{◌≡◌, sym, ◌∙◌}
+use mathlib.Core.Bool.{true, false, false≢true}
 use mathlib.Core.List.{List, []}
 use lib.ListN.{take}
 use borrow.Author.Tests.{eq-eqb, not-true, not-false}
+use Rattle.std.specs.Prelude as std
 use Rattle.rules.specs.Bounded.{every, any}
 use Rattle.rules.specs.Layout.{gives, refuses, require}
 use Rattle.rules.specs.Model.{Model}
@@ -14,28 +14,22 @@ use Rattle.rules.specs.Lookup.{lookup}
 use Rattle.rules.specs.Coverage.{tuples, Below}
 use Rattle.rules.specs.Calls.{send_rule}
 use Rattle.rules.specs.Rough.{Rough, one, may_fail, several, is_method, is_failure, rough, has_concrete, rough_of, rough_in, Says}
-use Rattle.rules.proofs.Lists.{test, any_mem, any_from, any_none, any_fails, first_mem, first_none}
+use Rattle.rules.proofs.Lists.{any_mem, any_from, any_none, any_fails, first_mem, first_none}
 use Rattle.rules.proofs.Rough.{is_method_lem, no_failure, below_listed, listed_below, below_concrete, says_rough, calls_narrow}
 use Rattle.sends.specs.Send.{Passes}
 use Rattle.tuple_search.specs.declared.question.Question.{Question}
 use Rattle.tuple_search.specs.declared.question.Question.TheVariants.{Finds, FindsOnly}
 use Rattle.tuple_search.specs.Questions.{stops_at}
-use Rattle.tuple_search.specs.Search.{stop_in, Ends}
-use Rattle.tuple_search.proofs.Searching.{passed_through, stopped_at_lem}
+use Rattle.tuple_search.specs.Search.{stop_in, FirstStop}
 use Rattle.upper_classes.specs.Answered.{SomeFinds, CallsNarrow}
 
--- a search with no place filled stops exactly where some tuple stops it
-pub stops_any : (M : Model) (q : Question) (upper old new : List ℕ) (r : Bool) → Ends M q [] upper old new r → r ≡ any (stops_at M q) (tuples M upper)
+-- a search stops exactly where some tuple stops it
+pub stops_any : (M : Model) (q : Question) (upper : List ℕ) (r : std.Option (List ℕ)) → FirstStop M q upper r → std.is_some r ≡ any (stops_at M q) (tuples M upper)
 unfolding stop_in
-stops_any M q upper old new r w = go (test r)
-  where
-    go : (r ≡ true) ⊎ (r ≡ false) → r ≡ any (stops_at M q) (tuples M upper)
-    go (inl e) =
-        let (t, s, _) = stopped_at_lem M q [] upper old new r w e in
-        let (m, h) = first_mem (stops_at M q) (tuples M upper) s in
-        e ∙ sym (any_from (stops_at M q) (tuples M upper) m h)
-    go (inr e) =
-        e ∙ sym (any_none (stops_at M q) (tuples M upper) (λ t m. first_none (stops_at M q) (tuples M upper) (passed_through M q [] upper old new r w e).0 m))
+stops_any M q upper (std.Some t) (long, s) =
+    let (m, h) = first_mem (stops_at M q) (tuples M upper) s in
+    sym (any_from (stops_at M q) (tuples M upper) m h)
+stops_any M q upper std.None s = sym (any_none (stops_at M q) (tuples M upper) (λ t m. first_none (stops_at M q) (tuples M upper) s m))
 
 module _ (M : Model) (f : ℕ) (upper : List ℕ) where
   -- where no tuple stops a search, all pass
@@ -43,23 +37,23 @@ module _ (M : Model) (f : ℕ) (upper : List ℕ) where
   none_stops q e t b = any_fails (stops_at M q) (tuples M upper) e (below_listed M upper t b)
 
   -- an answer that is true is the answer, where there is a tuple
-  answer : (t : List ℕ) → Below M upper t → (r : Rough) → Says M f upper r → ◌≡◌ {A = _} (gives r) (gives (rough M f upper))
-  answer t b r s = ap gives (says_rough M f upper (below_concrete M upper t b) r s)
+  answer : (t : List ℕ) → Below M upper t → (r : Rough) → Says M f upper r → r ≡ rough M f upper
+  answer t b r s = says_rough M f upper (below_concrete M upper t b) r s
 
-  pub fails_answer : (t : List ℕ) → Below M upper t → is_failure (lookup M f t) ≡ true → gives may_fail ≡ gives (rough M f upper)
+  pub fails_answer : (t : List ℕ) → Below M upper t → is_failure (lookup M f t) ≡ true → may_fail ≡ rough M f upper
   fails_answer t b e = answer t b may_fail (t, b, e)
 
-  pub some_fails_answer : any (stops_at M (Finds f)) (tuples M upper) ≡ true → gives may_fail ≡ gives (rough M f upper)
+  pub some_fails_answer : any (stops_at M (Finds f)) (tuples M upper) ≡ true → may_fail ≡ rough M f upper
   unfolding stops_at
   some_fails_answer e = let (t, n, h) = any_mem (stops_at M (Finds f)) (tuples M upper) e in fails_answer t (listed_below M upper n) h
 
   module _ (m : ℕ) (s : SomeFinds M f upper m) where
-    pub one_answer : any (stops_at M (FindsOnly f m)) (tuples M upper) ≡ false → gives (one m) ≡ gives (rough M f upper)
+    pub one_answer : any (stops_at M (FindsOnly f m)) (tuples M upper) ≡ false → one m ≡ rough M f upper
     unfolding stops_at
     one_answer e = answer s.tuple s.below (one m) (λ t b. is_method_lem m (lookup M f t) (not-false _ (none_stops (FindsOnly f m) e t b)))
 
     pub several_answer : any (stops_at M (FindsOnly f m)) (tuples M upper) ≡ true → any (stops_at M (Finds f)) (tuples M upper) ≡ false
-        → gives several ≡ gives (rough M f upper)
+        → several ≡ rough M f upper
     unfolding stops_at is_method
     several_answer e d =
         let (t, n, h) = any_mem (stops_at M (FindsOnly f m)) (tuples M upper) e in

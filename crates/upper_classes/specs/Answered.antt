@@ -1,6 +1,6 @@
 -- What a rough answer says, in the words of the rules.
 -- Assumes nothing.
-use Rattle.std.specs.Prelude.{ℕ, ◌≡◌, true, List, []}
+use Rattle.std.specs.Prelude.{ℕ, ◌≡◌, true, List, [], Result, Ok, Err}
 use Rattle.rules.specs.Numbers as numbers
 use Rattle.rules.specs.Layout.{Answer, gives, refuses}
 use Rattle.rules.specs.Model.{Model, model_of}
@@ -10,15 +10,21 @@ use Rattle.rules.specs.Coverage.{Below}
 use Rattle.rules.specs.Calls.{used}
 use Rattle.rules.specs.Rough.{Rough, one, may_fail, several, rough_call, NarrowsTo}
 use Rattle.answers.specs.Refusals.{refusal_said}
-use Rattle.upper_classes.specs.declared.answer.RoughAnswer as answer-type
-use Rattle.upper_classes.specs.declared.answer.RoughAnswer.TheVariants.{One, MayFail, Several, NoConcrete, Refused}
+use Rattle.upper_classes.specs.declared.answer.Rough as rough-type
+use Rattle.upper_classes.specs.declared.answer.Rough.TheVariants.{One, MayFail, Several}
+use Rattle.upper_classes.specs.declared.answer.RoughError as error-type
+use Rattle.upper_classes.specs.declared.answer.RoughError.TheVariants.{NoConcrete, Refused}
 
-abbrev pub rough_said : answer-type.RoughAnswer → Answer Rough
-rough_said (One m) = gives (one m)
-rough_said MayFail = gives may_fail
-rough_said Several = gives several
-rough_said NoConcrete = refuses numbers.no_concrete []
-rough_said (Refused r) = refusal_said r
+-- what is found below the upper classes
+abbrev pub found_below : rough-type.Rough → Rough
+found_below (One m) = one m
+found_below MayFail = may_fail
+found_below Several = several
+
+abbrev pub rough_said : Result rough-type.Rough error-type.RoughError → Answer Rough
+rough_said (Ok x) = gives (found_below x)
+rough_said (Err NoConcrete) = refuses numbers.no_concrete []
+rough_said (Err (Refused r)) = refusal_said r
 
 -- some tuple below the upper classes finds method m
 pub record SomeFinds (M : Model) (f : ℕ) (upper : List ℕ) (m : ℕ) : Type 0 where
@@ -30,7 +36,7 @@ pub record SomeFinds (M : Model) (f : ℕ) (upper : List ℕ) (m : ℕ) : Type 0
 -- of the first, one method stays that method, and several becomes several or one.
 abbrev pub CallsNarrow : Type 0
 CallsNarrow =
-    (b : List ℕ) (n k f : ℕ) (wide narrow : List ℕ) (x y : answer-type.RoughAnswer) (r q : Rough)
+    (b : List ℕ) (n k f : ℕ) (wide narrow : List ℕ) (x y : Result rough-type.Rough error-type.RoughError) (r q : Rough)
     → rough_said x ≡ rough_call b n f wide
     → rough_said y ≡ rough_call b k f narrow
     → under (model_of b) (used (model_of b) f narrow) (used (model_of b) f wide) ≡ true

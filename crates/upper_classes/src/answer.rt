@@ -1,147 +1,124 @@
 // What a send of a function finds where an upper class is known for each argument.
 ghost use Rattle.std.specs.Prelude.{◌≡◌};
 ghost use Rattle.rules.specs.Bounded.{any};
-ghost use Rattle.rules.specs.Layout.{gives};
-ghost use Rattle.rules.specs.Model.{model_of};
 ghost use Rattle.rules.specs.Coverage.{tuples, Below};
 ghost use Rattle.rules.specs.Rough.{rough, rough_of, rough_in};
-ghost use Rattle.subclasses.specs.Prepared.{Prepared};
+ghost use Rattle.layout.specs.Bundles.{model};
 ghost use Rattle.subclasses.specs.Places.{Arguments};
 ghost use Rattle.answers.specs.Send.{tuple_of};
-ghost use Rattle.tuple_search.specs.Questions.{About, function_of, stops_at};
-ghost use Rattle.tuple_search.specs.Search.{Tables};
-ghost use Rattle.upper_classes.specs.Answered.{rough_said, SomeFinds};
+ghost use Rattle.tuple_search.specs.Questions.{function_of, stops_at};
+ghost use Rattle.tuple_search.specs.Searches.{searched};
+ghost use Rattle.upper_classes.specs.declared.answer.RoughError.TheVariants.{Refused};
+ghost use Rattle.upper_classes.specs.Answered.{found_below, rough_said, SomeFinds};
 
 use crate::least::least_below;
 use answers::refusal::Refusal;
 use answers::send::Send;
-use dispatch::index::index_methods;
-use dispatch::lookup::lookup;
-use dispatch::select::Found;
-use layout::bundle::Bundle;
+use dispatch::index::IndexedBundle;
 use method_sets::order::order_methods;
 use method_sets::sets::TABLE_WORDS;
-use method_sets::table::fill_table;
+use method_sets::table::MethodClass;
 use sends::send::classes_of;
+use subclasses::prepared::PreparedBundle;
 use tuple_search::question::Question;
-use tuple_search::search::search_below;
+use tuple_search::tables::Search;
 
-// The one method that every tuple below finds; some tuple finds none or two; each finds one, and not all the same; 24, no concrete class is under one of the
-// upper classes; or a refusal.
+// The one method that every tuple below finds; some tuple finds none or two; or each finds one, and not all the same.
 #[derive(Clone, Copy)]
-pub enum RoughAnswer {
+pub enum Rough {
     One(usize),
     MayFail,
     Several,
+}
+
+// 24, no concrete class is under one of the upper classes; or a refusal.
+#[derive(Clone, Copy)]
+pub enum RoughError {
     NoConcrete,
     Refused(Refusal),
 }
 
-// Whether the answer to a question about what is found is no for some tuple below the upper classes. The declared classes of methods play no part in what is
-// found, so the table of specialisers is lent in place of theirs.
-fn some_stops(
-    bytes: &[u8],
-    b: Bundle,
-    scratch: &[u8],
-    q: Question,
-    upper: &[u8],
-    order: &[usize; Bundle::METHODS],
-    admits: &[u64; TABLE_WORDS],
-) -> bool
-    requires prepared { Prepared bytes.now b scratch.now }
-    requires tables { Tables (model_of bytes.now) q order.now admits.now admits.now }
-    requires about { About (model_of bytes.now) q }
-    requires arguments { Arguments (model_of bytes.now) (function_of (model_of bytes.now) q) upper.now }
-    ensures { result ≡ any (stops_at (model_of bytes.now) q) (tuples (model_of bytes.now) upper.now) }
-{
-    let n = upper.len();
-    let mut chosen = [0u8; Bundle::PLACES];
-    search_below(
-        bytes,
-        b,
-        scratch,
-        q,
-        upper,
-        &mut chosen[..n],
-        order,
-        admits,
-        admits,
-    )
+impl From<Refusal> for RoughError {
+    ghost from_gives = { λ refusal e. e ≡ Refused refusal };
+
+    fn from(refusal: Refusal) -> RoughError {
+        RoughError::Refused(refusal)
+    }
 }
 
-// The answer where some tuple below finds method m: whether each finds it, and where one does not, whether each finds some method.
-fn given_method(
-    bytes: &[u8],
-    b: Bundle,
-    scratch: &[u8],
-    f: usize,
-    upper: &[u8],
-    m: usize,
-) -> RoughAnswer
-    requires prepared { Prepared bytes.now b scratch.now }
-    requires arguments { Arguments (model_of bytes.now) f upper.now }
-    requires some_finds { SomeFinds (model_of bytes.now) f upper.now m }
-    ensures { rough_said result ≡ gives (rough (model_of bytes.now) f upper.now) }
+// Whether the answer to a question about what is found is no for some tuple below the upper classes.
+fn some_stops(search: &Search<'_>, upper: &[u8]) -> bool
+    requires { Arguments (searched search.now) (function_of (searched search.now) search.now.question) upper.now }
+    ensures { result ≡ any (stops_at (searched search.now) search.now.question) (tuples (searched search.now) upper.now) }
 {
-    let order = order_methods(bytes, b);
-    let mut admits = [0u64; TABLE_WORDS];
-    fill_table(bytes, b, scratch, &order, false, &mut admits);
-    let only = Question::FindsOnly(f, m);
-    if !some_stops(bytes, b, scratch, only, upper, &order, &admits) {
-        return RoughAnswer::One(m);
+    search.first_stop(upper).is_some()
+}
+
+// The answer where some tuple below finds method m: whether each finds it, and where one does not, whether each finds some method. The declared classes of
+// methods play no part in what is found, so the table of specialisers is lent in place of theirs. The indexed bundle is lent again, for as long as the tables.
+fn given_method(indexed: &IndexedBundle<'_>, f: usize, upper: &[u8], m: usize) -> Rough
+    requires arguments { Arguments (model indexed.now.prepared.bundle) f upper.now }
+    requires some_finds { SomeFinds (model indexed.now.prepared.bundle) f upper.now m }
+    ensures { found_below result ≡ rough (model indexed.now.prepared.bundle) f upper.now }
+{
+    let prepared = &indexed.prepared;
+    let order = order_methods(&prepared.bundle);
+    let mut admits = [0; TABLE_WORDS];
+    MethodClass::Specialiser.fill(prepared, &order, &mut admits);
+    let only = Search {
+        indexed: &*indexed,
+        question: Question::FindsOnly(f, m),
+        order: &order,
+        admits: &admits,
+        holds: &admits,
+    };
+    if !some_stops(&only, upper) {
+        return Rough::One(m);
     }
-    let one = Question::Finds(f);
-    if some_stops(bytes, b, scratch, one, upper, &order, &admits) {
-        return RoughAnswer::MayFail;
+    let one = Search {
+        indexed: &*indexed,
+        question: Question::Finds(f),
+        order: &order,
+        admits: &admits,
+        holds: &admits,
+    };
+    if some_stops(&one, upper) {
+        Rough::MayFail
+    } else {
+        Rough::Several
     }
-    RoughAnswer::Several
 }
 
 // The answer for upper classes with a tuple below them.
-fn given_tuple(
-    bytes: &[u8],
-    b: Bundle,
-    scratch: &[u8],
-    f: usize,
-    upper: &[u8],
-    least: &[u8],
-) -> RoughAnswer
-    requires prepared { Prepared bytes.now b scratch.now }
-    requires arguments { Arguments (model_of bytes.now) f upper.now }
-    requires below { Below (model_of bytes.now) upper.now least.now }
-    ensures { rough_said result ≡ gives (rough (model_of bytes.now) f upper.now) }
+fn given_tuple(prepared: &PreparedBundle<'_>, f: usize, upper: &[u8], least: &[u8]) -> Rough
+    requires arguments { Arguments (model prepared.now.bundle) f upper.now }
+    requires below { Below (model prepared.now.bundle) upper.now least.now }
+    ensures { found_below result ≡ rough (model prepared.now.bundle) f upper.now }
 {
-    let index = index_methods(bytes, b);
-    match lookup(bytes, b, scratch, &index, f, least) {
-        Found::Fails(_) => RoughAnswer::MayFail,
-        Found::Method(m) => given_method(bytes, b, scratch, f, upper, m),
+    let indexed = IndexedBundle::new(prepared);
+    match indexed.lookup(f, least) {
+        Ok(m) => given_method(&indexed, f, upper, m),
+        Err(_) => Rough::MayFail,
     }
 }
 
 // The answer for upper classes of function f: 24, or what the tuples below them find.
-fn given_upper(bytes: &[u8], b: Bundle, scratch: &[u8], f: usize, upper: &[u8]) -> RoughAnswer
-    requires prepared { Prepared bytes.now b scratch.now }
-    requires arguments { Arguments (model_of bytes.now) f upper.now }
-    ensures { rough_said result ≡ rough_of (model_of bytes.now) f upper.now }
+fn given_upper(prepared: &PreparedBundle<'_>, f: usize, upper: &[u8]) -> Result<Rough, RoughError>
+    requires { Arguments (model prepared.now.bundle) f upper.now }
+    ensures { rough_said result ≡ rough_of (model prepared.now.bundle) f upper.now }
 {
-    let n = upper.len();
-    let mut least = [0u8; Bundle::PLACES];
-    if !least_below(bytes, b, scratch, upper, &mut least[..n]) {
-        return RoughAnswer::NoConcrete;
+    match least_below(prepared, upper) {
+        None => Err(RoughError::NoConcrete),
+        Some(least) => Ok(given_tuple(prepared, f, upper, &least[..upper.len()])),
     }
-    given_tuple(bytes, b, scratch, f, upper, &least[..n])
 }
 
 // What a send finds whose tuple holds an upper class for each argument, abstract ones too.
-pub fn rough_in(bundle: &[u8], b: Bundle, scratch: &[u8], send: Send) -> RoughAnswer
-    requires { Prepared bundle.now b scratch.now }
-    ensures { rough_said result ≡ rough_in send.function (tuple_of send) (model_of bundle.now) }
+pub fn rough_in(prepared: &PreparedBundle<'_>, send: Send) -> Result<Rough, RoughError>
+    ensures { rough_said result ≡ rough_in send.function (tuple_of send) (model prepared.now.bundle) }
 {
-    let args = classes_of(bundle, b, send);
-    if !args.is_send {
-        return RoughAnswer::Refused(Refusal::Absent);
+    match classes_of(&prepared.bundle, send) {
+        None => Err(RoughError::Refused(Refusal::Absent)),
+        Some(args) => given_upper(prepared, send.function, args.as_slice()),
     }
-    let n = args.count;
-    let classes = args.classes;
-    given_upper(bundle, b, scratch, send.function, &classes[..n])
 }

@@ -10,18 +10,18 @@ use Rattle.chart.proofs.print_line.Goals as goal
 
 pub slice_bounds-text-end : goal.slice_bounds-text-end
 slice_bounds-text-end g c =
-    line_within c.args.bundle.now _ _ c.args.function c.args.line _ c.in-Written.is c.chart-answer.ensures.result_value c.chart-answer.ensures.text_after
+    line_within c.args.bundle.now _ _ c.args.function c.args.line _ c.in-Ok.is c.chart-answer.ensures.result_value c.chart-answer.ensures.text_after
 
 pub slice_bounds-write_all-end : goal.slice_bounds-write_all-end
 slice_bounds-write_all-end g c =
-    sym (length-take-le _ _ (line_within c.args.bundle.now _ _ c.args.function c.args.line _ c.in-Written.is c.chart-answer.ensures.result_value c.chart-answer.ensures.text_after))
+    sym (length-take-le _ _ (line_within c.args.bundle.now _ _ c.args.function c.args.line _ c.in-Ok.is c.chart-answer.ensures.result_value c.chart-answer.ensures.text_after))
 
-pub slice_bounds-text-end-in-Written-chart_refusal : goal.slice_bounds-text-end-in-Written-chart_refusal
-slice_bounds-text-end-in-Written-chart_refusal g c =
+pub slice_bounds-text-end-in-Ok-chart_refusal : goal.slice_bounds-text-end-in-Ok-chart_refusal
+slice_bounds-text-end-in-Ok-chart_refusal g c =
     let M = model_of [] in
-    piece_within (refusal_line M (chart_said c.chart-answer.result)) c.chart-answer.new.text c.chart_refusal.new.text c.in-Written-chart_refusal.is (c.chart_refusal.ensures M)
+    piece_within (refusal_line M (chart_said c.chart-answer.result)) c.chart-answer.new.text c.chart_refusal.new.text c.in-Ok-chart_refusal.is (c.chart_refusal.ensures M)
 
-pub slice_bounds-write_all-end-in-Written-chart_refusal : goal.slice_bounds-write_all-end-in-Written-chart_refusal
-slice_bounds-write_all-end-in-Written-chart_refusal g c =
+pub slice_bounds-write_all-end-in-Ok-chart_refusal : goal.slice_bounds-write_all-end-in-Ok-chart_refusal
+slice_bounds-write_all-end-in-Ok-chart_refusal g c =
     let M = model_of [] in
-    sym (length-take-le _ _ (piece_within (refusal_line M (chart_said c.chart-answer.result)) c.chart-answer.new.text c.chart_refusal.new.text c.in-Written-chart_refusal.is (c.chart_refusal.ensures M)))
+    sym (length-take-le _ _ (piece_within (refusal_line M (chart_said c.chart-answer.result)) c.chart-answer.new.text c.chart_refusal.new.text c.in-Ok-chart_refusal.is (c.chart_refusal.ensures M)))

@@ -19,13 +19,13 @@ pub returns-then-n-eq0 : goal.returns-then-n-eq0
 unfolding lower every
 returns-then-n-eq0 c =
     let none = c.parent_count-n.ensures.0 in
-    let empty : parents_of c.args.bytes.now c.args.c ≡ [] = sym (take_all 0 (parents_of c.args.bytes.now c.args.c) (omega (arith, none, c.if-n-eq0.true))) in
+    let empty : parents_of c.args.bundle.now.bytes.now c.args.c ≡ [] = sym (take_all 0 (parents_of c.args.bundle.now.bytes.now c.args.c) (omega (arith, none, c.if-n-eq0.true))) in
     rw empty
 
 pub returns : goal.returns
 unfolding lower
 returns c =
-    let b = c.args.bytes.now in
+    let b = c.args.bundle.now.bytes.now in
     let count = c.parent_count-n.ensures.0 in
     rw c.parent.ensures.0
-    (sym (last_tells c.args.c _ (parents_of b c.args.c) (rising b c.args.c (class_kept c.requires.listed c.args.c c.requires.c_lt_classes)) (omega (arith, count, c.if-n-eq0.false))))
+    (sym (last_tells c.args.c _ (parents_of b c.args.c) (rising b c.args.c (class_kept c.args.bundle.now.listed c.args.c c.requires)) (omega (arith, count, c.if-n-eq0.false))))

@@ -1,21 +1,17 @@
 -- `lines::line::layout_line` meets its contract.
 -- Assumes nothing.
-use Prim.Native.Nat.{ℕ}
-use native.Mathlib.Omega.{arith}
-use mathlib.Core.Path.{ap, ◌∙◌}
-use mathlib.Core.List.{[]}
+use Rattle.std.proofs.Common.{[], arith}
 use Rattle.rules.specs.Model.{model_of}
 use Rattle.lines.specs.Text.{field, refused_line}
-use Rattle.lines.proofs.Growing.{grown_both, grown_as}
+use Rattle.lines.proofs.Growing.{grown_both}
 use Rattle.lines.proofs.line.layout_line.Goals as goal
 
-pub put_word-requires : goal.put_word-requires
-put_word-requires c =
+pub put_word-requires-clause-at_in_bounds : goal.put_word-requires-clause-at_in_bounds
+put_word-requires-clause-at_in_bounds c =
     let named = c.put_record-end.ensures (model_of []) in
-    record { word_len_bound = omega arith; at_in_bounds = omega (arith, c.requires, c.put_field-p.ensures.bound, c.put_field-p.ensures.same, named.bound, named.same) }
+    omega (arith, named.bound, named.same)
 
 pub returns : goal.returns
 unfolding field refused_line
 returns c M =
-    let number = c.wide.ensures ∙ c.number.ensures in
-    grown_both (grown_both (grown_as (ap (λ (n : ℕ). field "refused " n) number) c.put_field-p.ensures) (c.put_record-end.ensures M)) c.put_word.ensures
+    grown_both (grown_both (rw c.number.ensures at c.put_number-p.ensures) (c.put_record-end.ensures M)) c.put_word.ensures

@@ -7,4 +7,4 @@ use Rattle.lines.proofs.line.put_send.Goals as goal
 pub returns : goal.returns
 unfolding field
 returns c =
-    grown_both (grown_both (grown_both c.put_field-p.ensures c.put_field-q.ensures) c.put_field-end.ensures) c.put_classes.ensures
+    grown_both (grown_both (grown_both c.put_number-p.ensures c.put_field-q.ensures) c.put_field-end.ensures) c.put_classes.ensures

@@ -10,7 +10,7 @@ pub returns-then-text-n : goal.returns-then-text-n
 returns-then-text-n c =
     let composed = c.compose-n.ensures in
     record {
-      told = λ h. omega (arith, h, c.if-text-n.true, composed.composed.fits, composed.text_len_unchanged, c.room-own.ensures);
+      told = λ h. omega (arith, h, c.if-text-n.true, composed.composed.fits, composed.text_len_unchanged);
       lists = listed_short c.args.bundle.now _ c.args.text.now _ composed.composed c.if-text-n.true;
     }
 

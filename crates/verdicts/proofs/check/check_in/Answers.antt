@@ -1,14 +1,12 @@
--- `verdicts::check::check_in` meets its contract: signatures are judged before bodies.
--- Assumes nothing.
-use mathlib.Core.Path.{sym, ap, ◌∙◌}
-use Rattle.answers.specs.Findings.{verdict_said}
+-- Signatures are judged before bodies.
+use Rattle.std.proofs.lemmas.Result.{err_from_is_err_and}
 use Rattle.coverage.proofs.Signatures.{bodies_next, signatures_first}
 use Rattle.verdicts.proofs.check.check_in.Goals as goal
 
-pub returns-in-Accepted : goal.returns-in-Accepted
-returns-in-Accepted c =
-    bodies_next _ (sym (ap verdict_said c.in-Accepted.is) ∙ c.broken_signature.ensures) c.type_bodies.ensures
+pub returns-in_err-broken_signature : goal.returns-in_err-broken_signature
+returns-in_err-broken_signature c =
+    let p = err_from_is_err_and c.from_residual.result c.from_residual.ensures.1 in
+    rw (p.1, p.2) (signatures_first _ (rw c.new-indexed.ensures at c.in_err-broken_signature.ensures))
 
-pub returns-in-Refused : goal.returns-in-Refused
-returns-in-Refused c =
-    signatures_first _ (sym (ap verdict_said c.in-Refused.is) ∙ c.broken_signature.ensures)
+pub returns : goal.returns
+returns c = bodies_next _ (rw c.new-indexed.ensures at c.in_ok-broken_signature.ensures) c.type_bodies.ensures

@@ -1,0 +1,5 @@
+use Rattle.layout.proofs.Readings.{declared_read}
+use Rattle.layout.proofs.open.OpenBundle.declared.Goals as goal
+
+pub returns : goal.returns
+returns c = rw (c.byte_at.ensures.0, c.declared_tuple_at.ensures.0, c.records.ensures.0) (declared_read c.args.self.now.opened c.args.m c.args.place c.requires.m_lt_methods c.requires.place_lt_places)

@@ -1,0 +1,12 @@
+use Rattle.std.proofs.Common.{arith}
+use Rattle.rules.specs.Model.{model_of}
+use Rattle.layout.proofs.Opened.{counts_of, wellformed_of}
+use Rattle.layout.proofs.open.OpenBundle.result.Goals as goal
+
+pub returns : goal.returns
+unfolding model_of
+returns c =
+    let o = c.args.self.now.opened in
+    let counts = counts_of o in
+    let read = rw c.records.ensures.0 at c.result.ensures in
+    (read, omega (arith, (wellformed_of o).result_present c.args.m (omega arith)))
