@@ -1,5 +1,5 @@
 // Opening: the rules in the order of their numbers.
-ghost use Rattle.std.specs.Prelude.{◌≡◌, ◌<◌, length, get_or, IfOk};
+ghost use Rattle.std.specs.Prelude.{◌≡◌, ◌<◌, IfOk};
 ghost use Rattle.answers.specs.declared.opening.Rule.TheVariants.{Code};
 ghost use Rattle.answers.specs.Opening.{said, TablesOf, Opens};
 ghost use Rattle.bundle_rules.specs.Tables.{tables_of};
@@ -13,31 +13,22 @@ use layout::bundle::Bundle;
 use layout::open::{OpenBundle, Records};
 use twin_rule::chain::ChainedRecords;
 
-// How many rules on records there are.
-const RULES: usize = 6;
-
-// The rule on records that is tried after i others.
-fn rule_at(i: usize) -> Rule
-    requires { i < length order }
-    ensures { result ≡ get_or order i Code }
-{
-    match i {
-        0 => Rule::Class,
-        1 => Rule::Function,
-        2 => Rule::Signature,
-        3 => Rule::Method,
-        4 => Rule::Twin,
-        _ => Rule::Code,
-    }
-}
+// The rules on records, in the order in which they are tried.
+const ORDER: [Rule; 6] = [
+    Rule::Class,
+    Rule::Function,
+    Rule::Signature,
+    Rule::Method,
+    Rule::Twin,
+    Rule::Code,
+];
 
 // Numbers 4 to 9: each rule is decided for all its records before the next.
 fn records_opening(records: &Records<'_>) -> Result<Bundle, LayoutFinding>
     ensures { (said result ≡ opening_by order records.now.bytes.now) × TablesOf records.now.bytes.now result }
 {
     let chained = ChainedRecords::new(records);
-    for i in 0..RULES {
-        let rule = rule_at(i);
+    for rule in ORDER {
         if let Some(k) = lowest_broken(&chained, rule) {
             return Err(LayoutFinding::Record(rule, k));
         }
@@ -45,7 +36,8 @@ fn records_opening(records: &Records<'_>) -> Result<Bundle, LayoutFinding>
     Ok(records.tables)
 }
 
-// The opened bundle, or the first of the rules 1 to 9 that the bytes break.
+// The opened bundle, or the first of the rules 1 to 9 that the bytes break. The chains of twins are gone from the stack before the bundle is used.
+#[inline(never)]
 pub fn open(bytes: &[u8]) -> Result<OpenBundle<'_>, LayoutFinding>
     ensures opens { Opens bytes.now (tables_of result) }
     ensures same_bytes { IfOk result (λ b. b.bytes ≡ bytes.entry) }

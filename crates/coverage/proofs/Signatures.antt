@@ -1,18 +1,21 @@
 -- Broken signatures as the search finds them: one of them, and the lowest.
 -- Assumes nothing.
 use Prim.Native.Nat.{ℕ, ◌<◌}
+use native.Mathlib.Omega.{arith}
 use mathlib.Core.Path.{◌≡◌, refl, sym, ap, ◌∙◌}
 use mathlib.Core.Bool.{true, false, false≢true}
 use mathlib.Core.List.{List, []}
 use mathlib.Core.Option.{Option, none, some}
+use lib.ListN.{take}
 use Rattle.rules.specs.Bounded.{upto}
-use Rattle.rules.specs.Layout.{Answer, gives, refuses}
+use Rattle.rules.specs.Layout.{Answer, gives, refuses, padded}
 use Rattle.rules.specs.Model.{Model, Wellformed}
 use Rattle.rules.specs.Coverage.{Judgement, holds, fails, judge, failing, tuples, broken_tuple, is_some, broken_signature, broken_method, coverage_refusal, tuple_verdict, body_verdict, coverage_verdict, verdict}
 use Rattle.rules.specs.Alike.{implies}
 use Rattle.rules.proofs.Lists.{any_mem, first_mem, upto_below, none_lowest, some_lowest, lowest_some}
 use Rattle.rules.proofs.Coverage.{none_of, broken_fails}
 use Rattle.rules.proofs.Rough.{listed_below}
+use Rattle.rules.proofs.Tuples.{padded_read}
 use Rattle.rules.proofs.Alike.{implied_covered}
 use Rattle.subclasses.specs.Places.{Arguments}
 use Rattle.coverage_rule.specs.Implied.{implied}
@@ -46,6 +49,15 @@ pub tuple_arguments : (M : Model) → Wellformed M → (s : ℕ) (args : List �
 unfolding broken_tuple
 tuple_arguments M w s args h e =
     below_arguments (signature_arguments w s h) (listed_below M (M.sig_args s) (first_mem (λ t. failing (judge M s t)) (tuples M (M.sig_args s)) e).0)
+
+-- the broken tuple of a signature stands at as many places of an array as its function has arguments
+pub broken_places : {M : Model} → Wellformed M → (s n : ℕ) (tuple t : List ℕ) → s < M.signatures → n ≡ M.arity (M.sig_function s)
+    → broken_tuple M s ≡ some t → tuple ≡ padded t → broken_tuple M s ≡ some (take n tuple)
+broken_places {M} w s n tuple t h long e same =
+    let a = tuple_arguments M w s t h e in
+    let few = w.arity_limit (M.sig_function s) a.function in
+    e
+    ∙ ap some (sym (ap (take n) same ∙ ap (λ k. take k (padded t)) (long ∙ sym a.arity) ∙ padded_read t (omega (arith, a.arity, few))))
 
 -- A signature that is accepted is not broken; one that is refused, with none before it broken, is the lowest.
 pub signature_holds : (M : Model) (s : ℕ) → gives tt ≡ tuple_verdict M s (broken_tuple M s) → is_some (broken_tuple M s) ≡ false

@@ -56,12 +56,13 @@ fn broken_tuple(search: &Search<'_>, s: usize) -> Result<(), Finding>
     }
 }
 
-// The verdict on the signatures: a search in number order, to the first that is broken, with the tables made once.
-// The indexed bundle is lent again, for as long as the tables.
-pub fn broken_signature(indexed: &IndexedBundle<'_>) -> Result<(), Finding>
-    ensures { let M = model indexed.now.prepared.bundle in verdict_said result ≡ signature_verdict M (broken_signature M) }
+// The verdict on the signatures: a search in number order, to the first that is broken, with the tables made once. Its frame is large, and is gone before the
+// bodies are checked.
+#[inline(never)]
+pub fn broken_signature(prepared: &PreparedBundle<'_>) -> Result<(), Finding>
+    ensures { let M = model prepared.now.bundle in verdict_said result ≡ signature_verdict M (broken_signature M) }
 {
-    let prepared = &indexed.prepared;
+    let indexed = IndexedBundle::new(prepared);
     let bundle = &prepared.bundle;
     let order = order_methods(bundle);
     let mut admits = [0; TABLE_WORDS];
@@ -71,7 +72,7 @@ pub fn broken_signature(indexed: &IndexedBundle<'_>) -> Result<(), Finding>
     for s in 0..bundle.tables.signatures {
         if !implied(prepared, s) {
             let search = Search {
-                indexed: &*indexed,
+                indexed: &indexed,
                 question: Question::Rule(s),
                 order: &order,
                 admits: &admits,

@@ -1,9 +1,9 @@
 // The frames and the fields of one.
-ghost use Rattle.std.specs.Prelude.{◌≡◌, ◌+◌, ◌*◌, ◌<◌, ◌≤◌, length, get_or};
+ghost use Rattle.std.specs.Prelude.{◌≡◌, ◌+◌, ◌*◌, ◌<◌, ◌≤◌, length, get_or, replicate};
 ghost use Rattle.rules.specs.Bytes.{part};
 ghost use Rattle.rules.specs.Layout.{places, padded};
 ghost use Rattle.rules.specs.Machine.{max_frames};
-ghost use Rattle.frames.specs.Arrays.{stack_room, frame_bytes, method_at, next_at, passed, begun, given};
+ghost use Rattle.frames.specs.Arrays.{stack_room, frame_numbers, frame_bytes, method_at, next_at, passed, begun, given};
 
 use layout::bundle::Bundle;
 use layout::bytes::{class_at, part};
@@ -30,7 +30,10 @@ pub struct Frames {
 
 impl Frames {
     // Frames to run on, before any is used.
-    pub fn new() -> Self {
+    pub fn new() -> Self
+        ensures numbers_zero { result.numbers ≡ replicate (frame_numbers * max_frames) 0 }
+        ensures values_zero { result.values ≡ replicate (frame_bytes * max_frames) 0 }
+    {
         Frames {
             numbers: [0; FRAME_NUMBERS * MAX_FRAMES],
             values: [0; FRAME_BYTES * MAX_FRAMES],

@@ -1,7 +1,7 @@
 // Lookup a second time and another way: of the library only the form of a reply is used, there is no matrix, and the most specific method is found by counting. The method
 // found is at least as specific as all the applicable ones, and a rival has none but itself that is as specific as it. What stands here and in `ancestry`,
 // `matrix` and `record` takes a bundle that opens. Of another it says nothing of use, but it reads no byte that is not there, and it ends.
-ghost use Rattle.std.specs.Prelude.{◌<◌, ◌≤◌};
+ghost use Rattle.std.specs.Prelude.{◌<◌};
 
 use crate::ancestry::is_under;
 use crate::record::{Places, function_of, method_count, specialisers};

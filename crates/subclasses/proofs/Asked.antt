@@ -2,25 +2,26 @@
 -- Assumes nothing.
 use Prim.Native.Nat.{ℕ, ◌≤◌, ◌<◌}
 use native.Mathlib.Omega.{arith}
-use mathlib.Core.Path.{◌≡◌, sym, ap, ◌∙◌}
-use mathlib.Core.Bool.{Bool, true}
-use mathlib.Core.List.{List}
+use mathlib.Core.Path.{◌≡◌, refl, sym, ap, ap₂, ◌∙◌}
+use mathlib.Core.Bool.{Bool, true, ◌&&◌}
+use mathlib.Core.List.{List, [], ◌∷◌}
 use lib.Dec.{eqb, ltb}
 use lib.ListN.{length, get_or}
 use borrow.Author.Tests.{ltb-true}
+use Rattle.rules.specs.Bounded.{every, matching}
 use Rattle.rules.specs.Layout.{places, max_classes}
 use Rattle.rules.specs.Model.{Model, model_of, present}
-use Rattle.rules.specs.Subclass.{subclass, ancestry_by, ancestry}
+use Rattle.rules.specs.Subclass.{subclass, under, ancestry_by, ancestry}
 use Rattle.rules.specs.Scratch.{scratch_bytes, class_under, entry_at}
-use Rattle.rules.proofs.Lists.{every_place}
+use Rattle.rules.proofs.Lists.{every_place, and_left, and_right}
 use Rattle.rules.proofs.Scratch.{class_under_lem}
 use Rattle.layout.specs.Opened.{Opened}
 use Rattle.layout.specs.Arity.{OfArity}
 use Rattle.layout.specs.declared.bundle.Bundle.{Bundle}
 use Rattle.layout.proofs.Opened.{wellformed_of, counts_of}
-use Rattle.subclasses.specs.Matrix.{Filled, filled, ancestry_at}
+use Rattle.subclasses.specs.Matrix.{Filled, filled, ancestry_at, entries_at}
 use Rattle.subclasses.specs.Prepared.{Prepared}
-use Rattle.subclasses.specs.Places.{Arguments, InMatrix}
+use Rattle.subclasses.specs.Places.{Arguments, InMatrix, Comparable}
 
 pub filled_long : {M : Model} {s : List ℕ} → Filled M s → scratch_bytes ≤ length s
 filled_long (filled long entries) = long
@@ -32,6 +33,11 @@ filled_entry (filled long entries) = entries
 pub class_below : (M : Model) (xs : List ℕ) → present M xs ≡ true → (i : ℕ) → i < length xs → get_or xs i 0 < M.classes
 unfolding present
 class_below M xs e i l = ltb-true (get_or xs i 0) M.classes (every_place (λ c. ltb c M.classes) xs 0 e i l)
+
+present_cons : (M : Model) (x : ℕ) (xs : List ℕ) → present M (x ∷ xs) ≡ true → (x < M.classes) × (present M xs ≡ true)
+unfolding present every
+present_cons M x xs e =
+    (ltb-true x M.classes (and_left (ltb x M.classes) (present M xs) e), and_right (ltb x M.classes) (present M xs) e)
 
 module _ {b : List ℕ} {t : Bundle} (o : Opened b t) where
   pub in_matrix : (xs : List ℕ) → present (model_of b) xs ≡ true → InMatrix xs
@@ -79,3 +85,19 @@ module _ {b : List ℕ} {t : Bundle} {s : List ℕ} (p : Prepared b t s) where
   pub ancestry_entry : (a c : ℕ) → a < t.classes → c < t.classes → ancestry_at s a c ≡ ancestry (model_of b) a c
   unfolding ancestry_at ancestry
   ancestry_entry a c h k = ap (λ (u : Bool). ancestry_by u (eqb a c)) (class_entry a c h k)
+
+  -- two tuples of classes can be compared, and their entries say whether the one is under the other place by place
+  module _ {xs ys : List ℕ} (h : present (model_of b) xs ≡ true) (k : present (model_of b) ys ≡ true) where
+    pub comparable : length xs ≡ length ys → Comparable s xs ys
+    comparable q = record { long = filled_long p.filled; even = q; lower = in_matrix p.opened xs h; upper = in_matrix p.opened ys k }
+
+  pub entries_under : (xs ys : List ℕ) → present (model_of b) xs ≡ true → present (model_of b) ys ≡ true → entries_at s xs ys ≡ under (model_of b) xs ys
+  unfolding entries_at under matching
+  entries_under [] [] h k = refl
+  entries_under [] (y ∷ ys) h k = refl
+  entries_under (x ∷ xs) [] h k = refl
+  entries_under (x ∷ xs) (y ∷ ys) h k =
+      let M = model_of b in
+      let u = present_cons M x xs h in
+      let v = present_cons M y ys k in
+      ap₂ ◌&&◌ (entry_subclass x y u.0 (omega (arith, v.0, (wellformed_of p.opened).classes_limit))) (entries_under xs ys u.1 v.1)

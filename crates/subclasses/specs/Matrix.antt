@@ -1,8 +1,9 @@
 -- The scratch as the subclass matrix of a model, and the rows of the matrix as sets of classes.
 -- Assumes nothing.
-use Rattle.std.specs.Prelude.{ℕ, ◌*◌, ◌/◌, ◌%◌, ◌^◌, ◌≤◌, ◌<◌, ◌≡◌, ◌&&◌, List, eqb, ltb, length}
+use Rattle.std.specs.Prelude.{ℕ, ◌*◌, ◌/◌, ◌%◌, ◌^◌, ◌≤◌, ◌<◌, ◌≡◌, Bool, ◌&&◌, List, eqb, ltb, length}
 use mathlib.Core.Path.{ap, ◌∙◌}
 use denote.Struct.Props.{props}
+use Rattle.rules.specs.Bounded.{matching}
 use Rattle.rules.specs.Layout.{max_classes}
 use Rattle.rules.specs.Model.{Model}
 use Rattle.rules.specs.Subclass.{Ancestry, ancestry_by}
@@ -24,6 +25,10 @@ Filled-prop M s (filled p x) (filled q y) =
 -- how a class stands to another by their entry and their numbers
 unfoldable pub ancestry_at : List ℕ → ℕ → ℕ → Ancestry
 ancestry_at s a c = ancestry_by (entry_at s a c) (eqb a c)
+
+-- the entries of two tuples, place by place
+unfoldable pub entries_at : List ℕ → List ℕ → List ℕ → Bool
+entries_at s = matching (entry_at s)
 
 -- the classes that class a is under, as a set
 pub record RowOf (M : Model) (a : ℕ) (row : ClassSet) : Type 0 where

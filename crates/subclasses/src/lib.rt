@@ -2,5 +2,6 @@
 #![tactic(auto)]
 
 pub mod matrix;
+pub mod places;
 pub mod prepared;
 pub mod tuple;

@@ -8,9 +8,8 @@ ghost use Rattle.layout.specs.Bundles.{model};
 ghost use Rattle.subclasses.specs.Ancestry.{ancestry_of};
 ghost use Rattle.subclasses.specs.Prepared.{Prepared, Prepared-prop};
 
-use crate::matrix;
 use crate::matrix::{Ancestry, ancestry_of};
-use layout::bytes::byte_at;
+use crate::{matrix, places};
 use layout::open::OpenBundle;
 
 #[derive(Clone, Copy)]
@@ -46,12 +45,7 @@ impl PreparedBundle<'_> {
         requires as_long { length classes.now ≡ length above.now }
         ensures { result ≡ under (model self.now.bundle) classes.now above.now }
     {
-        for i in 0..classes.len() {
-            if !self.is_under(byte_at(classes, i), byte_at(above, i)) {
-                return false;
-            }
-        }
-        true
+        places::each_under(self.scratch, classes, above)
     }
 
     // Whether each argument class is under the class that method m declares at its place.

@@ -5,7 +5,7 @@ use Rattle.std.specs.Prelude as std
 use mathlib.Core.Logic.{∥∥₁_prop}
 use Rattle.std.proofs.Math.Option.{Option, none, some}
 use Rattle.rules.specs.Bounded.{first}
-use Rattle.rules.specs.Layout.{places}
+use Rattle.rules.specs.Layout.{padded}
 use Rattle.rules.specs.Model.{Model, present}
 use Rattle.rules.specs.Lookup.{left}
 use Rattle.rules.specs.Coverage.{tuples}
@@ -45,7 +45,8 @@ abbrev pub Ends : Model → Question → List ℕ → List ℕ → List ℕ → 
 Ends M q filled rest old new false = (stop_in M q filled rest ≡ none) × (new ≡ old)
 Ends M q filled rest old new true = (t : List ℕ) × (stop_in M q filled rest ≡ some t) × (new ≡ filled ++ t)
 
--- With no place filled before: it stops at none of the tuples below the upper classes, or at the first, which an array has at its first places.
+-- With no place filled before: it stops at none of the tuples below the upper classes, or at the first, which an array has at its first places. The places
+-- behind are 0.
 abbrev pub FirstStop : Model → Question → List ℕ → std.Option (List ℕ) → Type 0
 FirstStop M q upper std.None = stop_in M q [] upper ≡ none
-FirstStop M q upper (std.Some tuple) = (length tuple ≡ places) × (stop_in M q [] upper ≡ some (take (length upper) tuple))
+FirstStop M q upper (std.Some tuple) = (t : List ℕ) × (stop_in M q [] upper ≡ some t) × (tuple ≡ padded t)

@@ -15,7 +15,7 @@ pub const SIZE: usize = BUCKETS + Bundle::METHODS;
 pub struct ChainedRecords<'a> {
     pub records: Records<'a>,
     pub chains: [u16; SIZE],
-    ghost chained: { Chained records.bytes.now chains } by { Chained-prop records.bytes.now chains },
+    pub ghost chained: { Chained records.bytes.now chains } by { Chained-prop records.bytes.now chains },
 }
 
 impl<'a> ChainedRecords<'a> {

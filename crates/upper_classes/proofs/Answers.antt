@@ -26,7 +26,7 @@ use Rattle.upper_classes.specs.Answered.{SomeFinds, CallsNarrow}
 -- a search stops exactly where some tuple stops it
 pub stops_any : (M : Model) (q : Question) (upper : List ℕ) (r : std.Option (List ℕ)) → FirstStop M q upper r → std.is_some r ≡ any (stops_at M q) (tuples M upper)
 unfolding stop_in
-stops_any M q upper (std.Some t) (long, s) =
+stops_any M q upper (std.Some tuple) (t, s, same) =
     let (m, h) = first_mem (stops_at M q) (tuples M upper) s in
     sym (any_from (stops_at M q) (tuples M upper) m h)
 stops_any M q upper std.None s = sym (any_none (stops_at M q) (tuples M upper) (λ t m. first_none (stops_at M q) (tuples M upper) s m))

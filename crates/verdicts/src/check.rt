@@ -6,7 +6,6 @@ ghost use Rattle.answers.specs.Findings.{verdict_said};
 
 use answers::finding::Finding;
 use coverage::signature::broken_signature;
-use dispatch::index::IndexedBundle;
 use subclasses::prepared::PreparedBundle;
 use typing::methods::type_bodies;
 
@@ -14,7 +13,6 @@ use typing::methods::type_bodies;
 pub fn check_in(prepared: &PreparedBundle<'_>) -> Result<(), Finding>
     ensures { verdict_said result ≡ verdict (model prepared.now.bundle) }
 {
-    let indexed = IndexedBundle::new(prepared);
-    broken_signature(&indexed)?;
+    broken_signature(prepared)?;
     type_bodies(prepared)
 }

@@ -3,5 +3,5 @@ use Rattle.bundle_rules.proofs.Order.{Kept}
 use Rattle.bundle_rules.specs.Rules.{order}
 use Rattle.bundle_rules.proofs.opening.records_opening.Given as goal
 
-abbrev pub invariant-loop-i : goal.invariant-loop-i
-invariant-loop-i l = Kept order l.i l.records.bytes.now
+abbrev pub invariant-loop-rule : goal.invariant-loop-rule
+invariant-loop-rule l = Kept order l.rule-index l.records.bytes.now

@@ -6,7 +6,7 @@ use Rattle.verdicts.proofs.check.check_in.Goals as goal
 pub returns-in_err-broken_signature : goal.returns-in_err-broken_signature
 returns-in_err-broken_signature c =
     let p = err_from_is_err_and c.from_residual.result c.from_residual.ensures.1 in
-    rw (p.1, p.2) (signatures_first _ (rw c.new-indexed.ensures at c.in_err-broken_signature.ensures))
+    rw (p.1, p.2) (signatures_first _ c.in_err-broken_signature.ensures)
 
 pub returns : goal.returns
-returns c = bodies_next _ (rw c.new-indexed.ensures at c.in_ok-broken_signature.ensures) c.type_bodies.ensures
+returns c = bodies_next _ c.in_ok-broken_signature.ensures c.type_bodies.ensures

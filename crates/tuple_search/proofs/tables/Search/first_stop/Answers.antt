@@ -2,11 +2,13 @@
 -- Assumes nothing.
 use Prim.Native.Nat.{ℕ, ◌-◌, ◌≤◌}
 use native.Mathlib.Omega.{arith}
-use mathlib.Core.Path.{◌≡◌, sym, ◌∙◌}
+use mathlib.Core.Path.{◌≡◌, sym, ap, ◌∙◌}
 use mathlib.Core.List.{List, [], ◌∷◌, ◌++◌}
-use lib.ListN.{length, take, drop, length-append, length-drop}
-use lib.Seq.{length-take-le, take_at}
+use lib.ListN.{length, take, drop}
+use lib.Seq.{length-take-le}
+use Rattle.rules.specs.Layout.{padded}
 use Rattle.subclasses.proofs.Asked.{arguments_places}
+use Rattle.subclasses.proofs.Tuples.{padded_put}
 use Rattle.tuple_search.proofs.Known.{about_of, tables_of}
 use Rattle.tuple_search.proofs.Narrowing.{filling_none}
 use Rattle.tuple_search.proofs.Searching.{passed_through, stopped_at_lem}
@@ -22,6 +24,11 @@ long n h = length-take-le n zeros h
 -- so none of them is filled
 unfilled : (n : ℕ) → n ≤ 3 → length (take n zeros) - n ≡ 0
 unfilled n h = omega (arith, long n h)
+
+-- where the first n have a tuple, the places behind are zeros still
+rest_zero : (new t : List ℕ) (n : ℕ) → new ≡ t → length t ≡ n → n ≤ 3 → new ++ drop n zeros ≡ padded t
+rest_zero new t n g kept few =
+    ap (λ l. l ++ drop n zeros) g ∙ ap (λ k. t ++ drop k zeros) (sym kept) ∙ padded_put t (omega (arith, kept, few))
 
 pub slice_bounds-chosen-end : goal.slice_bounds-chosen-end
 slice_bounds-chosen-end c = arguments_places c.args.self.now.indexed.now.prepared.prepared.opened c.requires
@@ -46,10 +53,8 @@ returns-then-complete c =
     let few = arguments_places c.args.self.now.indexed.now.prepared.prepared.opened c.requires in
     let ends = rw (unfilled n few) at c.complete.ensures.ends in
     let (t, q, g) = stopped_at_lem _ _ _ _ _ _ c.complete.result ends c.if-complete.true in
-    let new = c.complete.new.chosen in
-    let kept : length new ≡ n = c.complete.ensures.chosen_len_unchanged ∙ long n few in
-    let same : t ≡ take n (new ++ drop n zeros) = sym g ∙ sym (take_at new _ n kept) in
-    (omega (arith, length-append new (drop n zeros), length-drop n zeros, kept), rw same at q)
+    let kept : length t ≡ n = ap length (sym g) ∙ c.complete.ensures.chosen_len_unchanged ∙ long n few in
+    (t, q, rest_zero _ t n g kept few)
 
 pub returns : goal.returns
 returns c =

@@ -3,9 +3,9 @@ use Rattle.std.proofs.Common.{◌≤◌}
 use Rattle.rules.specs.Layout.{max_functions, max_methods}
 use Rattle.layout.specs.Bundles.{model}
 use Rattle.dispatch.specs.Index.{IndexedFrom}
-use Rattle.dispatch.proofs.index.IndexedBundle.new.Given as goal
+use Rattle.dispatch.proofs.index.index_methods.Given as goal
 
 abbrev pub invariant-loop-m : goal.invariant-loop-m
 invariant-loop-m l =
-    let t = l.prepared.bundle.tables in
-    record { functions : t.functions ≤ max_functions; methods : t.methods ≤ max_methods; indexed : IndexedFrom (model l.prepared.bundle) l.first l.next l.m }
+    let t = l.bundle.tables in
+    record { functions : t.functions ≤ max_functions; methods : t.methods ≤ max_methods; indexed : IndexedFrom (model l.bundle) l.first l.next l.m }
