@@ -10,7 +10,7 @@ ghost use Rattle.coverage.specs.Signatures.{signature_verdict};
 use answers::finding::{CoverageFinding, Finding};
 use answers::send::Send;
 use coverage_rule::implied::implied;
-use coverage_rule::judge::judge;
+use coverage_rule::judge::judge_found;
 use dispatch::index::IndexedBundle;
 use method_sets::order::order_methods;
 use method_sets::sets::TABLE_WORDS;
@@ -20,18 +20,20 @@ use tuple_search::question::Question;
 use tuple_search::tables::Search;
 
 // The verdict on signature s, whose first broken tuple the arguments are.
-fn broken_by(prepared: &PreparedBundle<'_>, s: usize, args: &[u8]) -> Result<(), Finding>
-    requires s_lt_signatures { s < prepared.now.bundle.tables.signatures }
-    requires first_broken { broken_tuple (model prepared.now.bundle) s ≡ some args.now }
-    ensures { let M = model prepared.now.bundle in verdict_said result ≡ tuple_verdict M s (broken_tuple M s) }
+fn broken_by(indexed: &IndexedBundle<'_>, s: usize, args: &[u8]) -> Result<(), Finding>
+    requires s_lt_signatures { s < indexed.now.prepared.bundle.tables.signatures }
+    requires first_broken { broken_tuple (model indexed.now.prepared.bundle) s ≡ some args.now }
+    ensures { let M = model indexed.now.prepared.bundle in verdict_said result ≡ tuple_verdict M s (broken_tuple M s) }
 {
-    match judge(prepared, s, args) {
+    let prepared = &indexed.prepared;
+    let f = prepared.bundle.sig_function(s);
+    let found = indexed.lookup(f, args);
+    match judge_found(prepared, s, args, found) {
         Ok(_) => Ok(()),
         Err(failure) => {
-            let send = Send::of(prepared.bundle.sig_function(s), args);
             let found = CoverageFinding {
                 signature: s,
-                send,
+                send: Send::of(f, args),
                 failure,
             };
             Err(Finding::Coverage(found))
@@ -45,20 +47,17 @@ fn broken_tuple(search: &Search<'_>, s: usize) -> Result<(), Finding>
     requires question_value { search.now.question ≡ Question.Rule s }
     ensures { let M = searched search.now in verdict_said result ≡ tuple_verdict M s (broken_tuple M s) }
 {
-    let prepared = &search.indexed.prepared;
-    let bundle = &prepared.bundle;
+    let bundle = &search.indexed.prepared.bundle;
     let f = bundle.sig_function(s);
     let n = bundle.arity(f);
     let upper = bundle.signature_classes(n, s);
     match search.first_stop(upper) {
         None => Ok(()),
-        Some(chosen) => broken_by(prepared, s, &chosen[..n]),
+        Some(chosen) => broken_by(search.indexed, s, &chosen[..n]),
     }
 }
 
-// The verdict on the signatures: a search in number order, to the first that is broken, with the tables made once. Its frame is large, and is gone before the
-// bodies are checked.
-#[inline(never)]
+// The verdict on the signatures: a search in number order, to the first that is broken, with the tables made once.
 pub fn broken_signature(prepared: &PreparedBundle<'_>) -> Result<(), Finding>
     ensures { let M = model prepared.now.bundle in verdict_said result ≡ signature_verdict M (broken_signature M) }
 {

@@ -9,7 +9,8 @@ use answers::finding::{BodyFinding, Finding};
 use dispatch::index::IndexedBundle;
 use subclasses::prepared::PreparedBundle;
 
-// The verdict on the bodies: accepted, or the lowest method whose body breaks.
+// The verdict on the bodies: accepted, or the lowest method whose body breaks. Its stack of types is not there while signatures are judged.
+#[inline(never)]
 pub fn type_bodies(prepared: &PreparedBundle<'_>) -> Result<(), Finding>
     ensures { let M = model prepared.now.bundle in verdict_said result ≡ body_verdict M (broken_method M) }
 {
