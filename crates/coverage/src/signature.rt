@@ -57,7 +57,9 @@ fn broken_tuple(search: &Search<'_>, s: usize) -> Result<(), Finding>
     }
 }
 
-// The verdict on the signatures: a search in number order, to the first that is broken, with the tables made once.
+// The verdict on the signatures: a search in number order, to the first that is broken, with the tables made once. Its frame is large, and is gone before the
+// bodies are checked.
+#[inline(never)]
 pub fn broken_signature(prepared: &PreparedBundle<'_>) -> Result<(), Finding>
     ensures { let M = model prepared.now.bundle in verdict_said result ≡ signature_verdict M (broken_signature M) }
 {
