@@ -31,7 +31,7 @@
  * - A pointer with a length is to that many bytes, which the caller may read, and write where there is no const. It is not null and points to some
  *   object even where the length is 0. values is to CURIUMTOAD_VALUE_COUNT aligned numbers.
  * - bundle, scratch, row, text and values do not overlap, and no one else writes them during the call.
- * - The stack has CURIUMTOAD_STACK_BYTES left. A call uses less than 86 kilobytes of them, a listing the most. This is measured and not proved.
+ * - The stack has CURIUMTOAD_STACK_BYTES left. A call uses less than 85 kilobytes of them, a listing the most. This is measured and not proved.
  *
  * Nothing is kept between calls, and nothing is allocated. So any number of threads may call at once, each with its own scratch, row, text and values; a
  * bundle may be shared as long as no one writes it.

@@ -4,7 +4,7 @@
 usage: tools/names.py [DOCUMENT...]
 
 Prints FILE:LINE: NAME for each that is not there, and exits with 1 if there is any. Without arguments it reads README.md and those of bundles and rust,
-and docs, but for docs/PORT.md, docs/DESIGN-PASS.md and the notes in docs/landings, which name what was there before and when they were written; then it also prints each crate that README.md does not
+and docs, but for docs/PORT.md, docs/DESIGN-PASS.md, docs/LOOK-BACK.md and the notes in docs/landings, which name what was there before and when they were written; then it also prints each crate that README.md does not
 name, and each must-fail edit that docs/MUST-FAIL.md does not.
 
 How a name is looked for depends on its form:
@@ -26,7 +26,7 @@ import re
 import sys
 
 ROOT = pathlib.Path(__file__).resolve().parent.parent
-DOCUMENTS = [ROOT / "README.md", *sorted(p for p in (ROOT / "docs").glob("*.md") if p.name not in ("PORT.md", "DESIGN-PASS.md")), ROOT / "bundles" / "README.md", ROOT / "rust" / "README.md"]
+DOCUMENTS = [ROOT / "README.md", *sorted(p for p in (ROOT / "docs").glob("*.md") if p.name not in ("PORT.md", "DESIGN-PASS.md", "LOOK-BACK.md")), ROOT / "bundles" / "README.md", ROOT / "rust" / "README.md"]
 # In these a plain word in backquotes is the name of something, unless it is a word of the language.
 NAMING = {"DECISIONS.md", "MUST-FAIL.md", "RULES.md"}
 KEYWORDS = {"else", "match", "usize", "Option", "Some", "None", "Result", "Ok", "Err", "Iterator", "From", "Copy"}

@@ -10,8 +10,5 @@ pub(crate) const UNKNOWN: u8 = 102;
 
 // A number that comes alone.
 pub(crate) fn alone(number: u8) -> Reply {
-    Reply {
-        number,
-        values: [0; 8],
-    }
+    Reply::pair(number, 0, 0)
 }

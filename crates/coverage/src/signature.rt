@@ -57,13 +57,13 @@ fn broken_tuple(search: &Search<'_>, s: usize) -> Result<(), Finding>
     }
 }
 
-// The verdict on the signatures: a search in number order, to the first that is broken, with the tables made once. Its frame is large, and is gone before the
-// bodies are checked.
+// The verdict on the signatures, with the index made: a search in number order, to the first that is broken, with the tables made once. Its frame is large: it is
+// not there while the index is made, nor while bodies are checked.
 #[inline(never)]
-pub fn broken_signature(prepared: &PreparedBundle<'_>) -> Result<(), Finding>
-    ensures { let M = model prepared.now.bundle in verdict_said result ≡ signature_verdict M (broken_signature M) }
+fn broken_of(indexed: &IndexedBundle<'_>) -> Result<(), Finding>
+    ensures { let M = model indexed.now.prepared.bundle in verdict_said result ≡ signature_verdict M (broken_signature M) }
 {
-    let indexed = IndexedBundle::new(prepared);
+    let prepared = &indexed.prepared;
     let bundle = &prepared.bundle;
     let order = order_methods(bundle);
     let mut admits = [0; TABLE_WORDS];
@@ -73,7 +73,7 @@ pub fn broken_signature(prepared: &PreparedBundle<'_>) -> Result<(), Finding>
     for s in 0..bundle.tables.signatures {
         if !implied(prepared, s) {
             let search = Search {
-                indexed: &indexed,
+                indexed: &*indexed,
                 question: Question::Rule(s),
                 order: &order,
                 admits: &admits,
@@ -83,4 +83,12 @@ pub fn broken_signature(prepared: &PreparedBundle<'_>) -> Result<(), Finding>
         }
     }
     Ok(())
+}
+
+// The verdict on the signatures.
+#[inline(never)]
+pub fn broken_signature(prepared: &PreparedBundle<'_>) -> Result<(), Finding>
+    ensures { let M = model prepared.now.bundle in verdict_said result ≡ signature_verdict M (broken_signature M) }
+{
+    broken_of(&IndexedBundle::new(prepared))
 }

@@ -38,6 +38,8 @@ pub struct IndexedBundle<'a> {
 }
 
 impl<'a> IndexedBundle<'a> {
+    // Not inlined: the index is handed on by copies, whose room is to be gone from the stack before it is used.
+    #[inline(never)]
     pub fn new(prepared: &PreparedBundle<'a>) -> IndexedBundle<'a>
         ensures { result.prepared ≡ prepared.now }
     {

@@ -10,6 +10,17 @@ ghost use Rattle.dispatch.specs.Found.{found_of};
 use answers::failure::NotFound;
 use subclasses::prepared::PreparedBundle;
 
+// Whether method m is at least as specific as method o, both of functions with n arguments.
+pub fn as_specific(prepared: &PreparedBundle<'_>, n: usize, m: usize, o: usize) -> bool
+    requires of_arity { OfArity (model prepared.now.bundle) n m }
+    requires of_arity_2 { OfArity (model prepared.now.bundle) n o }
+    ensures { result ≡ as_specific (model prepared.now.bundle) m o }
+{
+    let own = prepared.bundle.specialisers(n, m);
+    let other = prepared.bundle.specialisers(n, o);
+    prepared.each_under(own, other)
+}
+
 // Methods of function f, of n arguments, to choose from.
 #[derive(Clone, Copy)]
 pub struct Candidates<'a, 'b> {
@@ -21,17 +32,6 @@ pub struct Candidates<'a, 'b> {
 }
 
 impl Candidates<'_, '_> {
-    // Whether method m is at least as specific as method o, both of functions with n arguments.
-    fn as_specific(&self, m: usize, o: usize) -> bool
-        requires of_arity { OfArity (model self.now.prepared.now.bundle) self.now.n m }
-        requires of_arity_2 { OfArity (model self.now.prepared.now.bundle) self.now.n o }
-        ensures { result ≡ as_specific (model self.now.prepared.now.bundle) m o }
-    {
-        let own = self.prepared.bundle.specialisers(self.n, m);
-        let other = self.prepared.bundle.specialisers(self.n, o);
-        self.prepared.each_under(own, other)
-    }
-
     // Whether no other method of the list is at least as specific as method m.
     fn unbeaten(&self, m: usize) -> bool
         requires { OfArity (model self.now.prepared.now.bundle) self.now.n m }
@@ -39,7 +39,7 @@ impl Candidates<'_, '_> {
     {
         for o in self.list {
             let o = usize::from(*o);
-            if o != m && self.as_specific(o, m) {
+            if o != m && as_specific(self.prepared, self.n, o, m) {
                 return false;
             }
         }
@@ -70,7 +70,7 @@ impl Candidates<'_, '_> {
         for i in 1..self.list.len() {
             let m = usize::from(self.list[i]);
             let o = usize::from(self.list[held]);
-            if self.as_specific(m, o) {
+            if as_specific(self.prepared, self.n, m, o) {
                 held = i;
             }
         }
@@ -84,7 +84,7 @@ impl Candidates<'_, '_> {
     {
         for o in self.list {
             let o = usize::from(*o);
-            if o != m && !self.as_specific(m, o) {
+            if o != m && !as_specific(self.prepared, self.n, m, o) {
                 return false;
             }
         }

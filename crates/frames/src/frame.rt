@@ -22,7 +22,7 @@ pub const STACK_ROOM: usize = 64;
 pub const FRAME_BYTES: usize = Bundle::PLACES + STACK_ROOM;
 
 // The frames of a run: the numbers of each, and its bytes.
-#[derive(Drop)]
+#[derive(Clone, Copy)]
 pub struct Frames {
     pub numbers: [usize; FRAME_NUMBERS * MAX_FRAMES],
     pub values: [u8; FRAME_BYTES * MAX_FRAMES],
@@ -95,7 +95,9 @@ impl Frames {
         self.numbers[FRAME_NUMBERS * k + 1] = 0;
         self.numbers[FRAME_NUMBERS * k + 2] = 0;
         let at = FRAME_BYTES * k;
-        let end = at + args.len();
-        self.values[at..end].copy_from_slice(args);
+        // By a loop: `copy_from_slice` would become a call for three bytes at most, of a function that the C archive would need from outside.
+        for (i, class) in args.iter().enumerate() {
+            self.values[at + i] = *class;
+        }
     }
 }

@@ -89,7 +89,7 @@ module _ (parents : ℕ → List ℕ) (n : ℕ) where
       }
 
   -- where a class of an order is on a cycle, so is one that stands before it
-  whole_acyclic : {classes : List ℕ} → ((c : ℕ) → c < n → every (λ p. ltb p n) (parents c) ≡ true) → Whole parents n classes → Acyclic parents n
+  pub whole_acyclic : {classes : List ℕ} → ((c : ℕ) → c < n → every (λ p. ltb p n) (parents c) ≡ true) → Whole parents n classes → Acyclic parents n
   whole_acyclic {classes} closed w c h =
       refuted (inherits parents n c c)
       (λ e. let (i, l, q) = w.all c h in descend (suc i) i c (omega arith) l q ((inherits_decides parents n closed c c h).0 e))
@@ -104,6 +104,12 @@ module _ (parents : ℕ → List ℕ) (n : ℕ) where
       → MatchOption r (Acyclic parents n → ⊥) (λ order. Whole parents n (classes order)) → is_some r ≡ true → Acyclic parents n
   order_acyclic classes closed (Some order) w e = whole_acyclic closed w
   order_acyclic classes closed None w e = absurd (false≢true e)
+
+  -- what is said of an order beside that it is whole
+  pub order_whole : {A : Type 0} (P : A → Type 0) (classes : A → List ℕ) → (r : Option A)
+      → MatchOption r (Acyclic parents n → ⊥) (λ order. P order × Whole parents n (classes order)) → MatchOption r (Acyclic parents n → ⊥) (λ order. Whole parents n (classes order))
+  order_whole P classes (Some order) w = w.1
+  order_whole P classes None w = w
 
   -- nothing is placed
   pub placing_none : (placed : List Bool) → placed ≡ replicate max_classes false → n ≤ max_classes → Placing parents n [] placed

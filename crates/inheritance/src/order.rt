@@ -1,7 +1,7 @@
 // An order of the classes in which each stands after its parents; there is none exactly where inheritance has a cycle. Most bundles have their classes so by number.
 // Of another the classes are placed by a walk: from each class to a parent that is not placed yet, and so on; a class is placed once its parents are. The classes on
 // the way back are a stack, no longer than there are classes: one more, and a class is on it twice.
-ghost use Rattle.std.specs.Prelude.{◌≡◌, false, ℕ, ◌<◌, ◌≤◌, length, get_or, MatchOption};
+ghost use Rattle.std.specs.Prelude.{◌≡◌, false, ℕ, ◌<◌, ◌≤◌, length, get_or, take, MatchOption};
 ghost use Rattle.rules.specs.Layout.{max_classes, parents_of};
 ghost use Rattle.inheritance.specs.Found.{found};
 ghost use Rattle.inheritance.specs.Order.{lower, in_number_order, is_placed, waiting, Acyclic, Placing, Whole, Walked};
@@ -15,6 +15,26 @@ const CLASSES: usize = Bundle::CLASSES;
 
 // Classes one after the other.
 pub type ClassList = ArrayVec<u8, CLASSES>;
+
+// An order of the classes: the first `count` of the array.
+#[derive(Clone, Copy)]
+pub struct Order {
+    pub classes: [u8; CLASSES],
+    pub count: usize,
+}
+
+impl Order {
+    // The classes of a list, as a value that can be copied.
+    fn of(list: &ClassList) -> Order
+        ensures classes { take result.count result.classes ≡ list.now.items }
+        ensures count { result.count ≡ length list.now.items }
+    {
+        let count = list.len();
+        let mut classes = [0; CLASSES];
+        classes[..count].copy_from_slice(list.as_slice());
+        Order { classes, count }
+    }
+}
 
 // Whether all parents of class c have lower numbers. They rise, so the last one tells.
 fn parents_lower(bundle: &ListedBundle<'_>, c: usize) -> bool
@@ -112,11 +132,12 @@ fn walked_order(bundle: &ListedBundle<'_>) -> Option<ClassList>
 }
 
 // The classes with parents first: by number where that will do. Which of several orders it is, no answer depends on.
-pub fn class_order(bundle: &ListedBundle<'_>) -> Option<ClassList>
-    ensures { MatchOption result (Acyclic (parents_of bundle.now.bytes.now) bundle.now.tables.classes → ⊥) (λ order. Whole (parents_of bundle.now.bytes.now) bundle.now.tables.classes order.items) }
+pub fn class_order(bundle: &ListedBundle<'_>) -> Option<Order>
+    ensures { MatchOption result (Acyclic (parents_of bundle.now.bytes.now) bundle.now.tables.classes → ⊥) (λ order. (order.count ≤ bundle.now.tables.classes) × Whole (parents_of bundle.now.bytes.now) bundle.now.tables.classes (take order.count order.classes)) }
 {
     if in_number_order(bundle) {
-        return Some(numbers(bundle.tables.classes));
+        return Some(Order::of(&numbers(bundle.tables.classes)));
     }
-    walked_order(bundle)
+    let walked = walked_order(bundle)?;
+    Some(Order::of(&walked))
 }

@@ -2,8 +2,8 @@
 -- Assumes nothing.
 use Prim.Native.Nat.{ℕ, zero, suc, ◌+◌, ◌*◌, ◌-◌, ◌<◌, ◌≤◌}
 use native.Mathlib.Omega.{arith}
-use mathlib.Core.Path.{◌≡◌, refl, sym, subst}
-use mathlib.Core.Bool.{Bool, true, ◌||◌}
+use mathlib.Core.Path.{◌≡◌, refl, sym, subst, ◌∙◌}
+use mathlib.Core.Bool.{Bool, true, false, ◌||◌}
 use mathlib.Core.List.{List, [], ◌∷◌}
 use lib.Dec.{eqb, ltb}
 use lib.ListN.{length, get_or}
@@ -88,3 +88,13 @@ limit_decides limits l (suc (suc (suc zero))) operand =
     (agree (eqb operand 0) (ltb operand 1) (λ e. lt-ltb operand 1 (omega (arith, eqb-true operand 0 e))) (λ e. eq-eqb operand 0 (omega (arith, ltb-true operand 1 e))))
 limit_decides limits l (suc (suc (suc (suc n)))) operand =
     rw (le-ltb (suc (suc (suc (suc n)))) 4 (omega arith), l.others) (sym (le-ltb operand 0 (omega arith)))
+
+-- an operation that is none of the four has no lawful operand,
+pub unknown_breaks : (limits : List ℕ) → Limits limits → (operation operand : ℕ) → 4 ≤ operation → by_limits limits operation operand ≡ false
+unfolding entry_of
+unknown_breaks limits l operation operand h = limit_decides limits l operation operand ∙ rw (le-ltb operation 4 h, l.others) (le-ltb operand 0 (omega arith))
+
+-- and one of the four has its own limit
+pub known_decides : (limits : List ℕ) → Limits limits → (operation operand : ℕ) → operation < 4 → by_limits limits operation operand ≡ ltb operand (get_or limits operation 0)
+unfolding entry_of
+known_decides limits l operation operand h = limit_decides limits l operation operand ∙ rw (lt-ltb operation 4 h) refl

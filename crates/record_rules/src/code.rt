@@ -2,7 +2,7 @@
 ghost use Rattle.std.specs.Prelude.{◌≡◌, not, true, ◌+◌, ◌*◌, ◌<◌, ◌≤◌, length};
 ghost use Rattle.rules.specs.Bytes.{part};
 ghost use Rattle.rules.specs.Layout.{every_pair, method_rule, code_rule};
-ghost use Rattle.record_rules.specs.Tests.{from, pair_rule, entries, entry_of, Limits, by_limits};
+ghost use Rattle.record_rules.specs.Tests.{from, pair_rule, Limits, by_limits};
 
 use layout::bytes::byte_at;
 use layout::open::Records;
@@ -10,21 +10,13 @@ use layout::open::Records;
 // What an operand stays below: an entry for each of the four operations, and one for all others, which have no lawful operand.
 const OTHERS: usize = 4;
 
-// The entry of an operation.
-#[tactic(auto, unfolding(crate::specs::Tests::entry_of))]
-fn entry(operation: usize) -> usize
-    ensures { (result ≡ entry_of operation) × (result < entries) }
-{
-    operation.min(OTHERS)
-}
-
-// Whether the operation is unknown, or its operand is no argument place, no class or no function, or not the 0 of a resend.
-#[tactic(auto, using(crate::proofs::Tests::limit_decides, rules::proofs::Decides::leb_not_ltb))]
+// Whether the operation is unknown, or its operand is no argument place, no class or no function, or not the 0 of a resend. An unknown one is told by itself: to
+// read the entry of all others for it would make each instruction of a large bundle wait for the choice of an entry.
 fn instruction_breaks(limits: &[usize], operation: usize, operand: usize) -> bool
     requires { Limits limits.now }
     ensures { result ≡ not (by_limits limits.now operation operand) }
 {
-    limits[entry(operation)] <= operand
+    OTHERS <= operation || limits[operation] <= operand
 }
 
 // Whether instruction i of the code from byte `at` on breaks the rule.

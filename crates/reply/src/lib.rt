@@ -55,24 +55,28 @@ fn standing(ancestry: Ancestry) -> usize
 }
 
 impl Reply {
+    // A number with two values or fewer.
+    pub fn pair(number: u8, v0: usize, v1: usize) -> Reply
+        ensures { result ≡ numbered number (v0 ∷ v1 ∷ []) }
+    {
+        Reply {
+            number,
+            values: [v0, v1, 0, 0, 0, 0, 0, 0],
+        }
+    }
+
     // Nothing is refused, with two values or fewer.
     pub fn given(v0: usize, v1: usize) -> Reply
         ensures { result ≡ numbered 0 (v0 ∷ v1 ∷ []) }
     {
-        Reply {
-            number: 0,
-            values: [v0, v1, 0, 0, 0, 0, 0, 0],
-        }
+        Reply::pair(0, v0, v1)
     }
 
     // What is refused, with two values or fewer.
     pub fn refused(number: Number, v0: usize, v1: usize) -> Reply
         ensures { result ≡ numbered (code_of number) (v0 ∷ v1 ∷ []) }
     {
-        Reply {
-            number: number.code(),
-            values: [v0, v1, 0, 0, 0, 0, 0, 0],
-        }
+        Reply::pair(number.code(), v0, v1)
     }
 
     // A send that fails.

@@ -51,7 +51,7 @@ fn class_bytes(tuple: Tuple) -> [u8; Bundle::PLACES]
 pub struct Passed {
     pub count: usize,
     pub classes: [u8; Bundle::PLACES],
-    ghost within: { count ≤ places },
+    pub ghost within: { count ≤ places },
 }
 
 impl Passed {

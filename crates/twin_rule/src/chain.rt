@@ -11,7 +11,7 @@ pub const SIZE: usize = BUCKETS + Bundle::METHODS;
 
 // Records whose methods are chained: for each bucket one past its highest method, and for each method one past the next lower one of its bucket;
 // 0 stands for none. An entry has two bytes, of which an Option would need four: all of them are cleared for the smallest bundle too.
-#[derive(Drop)]
+#[derive(Clone, Copy)]
 pub struct ChainedRecords<'a> {
     pub records: Records<'a>,
     pub chains: [u16; SIZE],

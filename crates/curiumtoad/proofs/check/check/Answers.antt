@@ -7,8 +7,8 @@ use Rattle.curiumtoad.proofs.check.check.Goals as goal
 
 pub returns-in-Ok-clause-result_value : goal.returns-in-Ok-clause-result_value
 unfolding check_call
-returns-in-Ok-clause-result_value c = (ready c.in-Ok.ensures _ c.check_in.ensures).0
+returns-in-Ok-clause-result_value c = (ready c.in-Ok.ensures.begins _ c.check_in.ensures).0
 
 pub returns-in-Err-clause-result_value : goal.returns-in-Err-clause-result_value
 unfolding check_call
-returns-in-Err-clause-result_value c = c.early.ensures ∙ (refused_early c.in-Err.ensures _).0
+returns-in-Err-clause-result_value c = c.early.ensures ∙ (refused_early c.in-Err.ensures.begins _).0

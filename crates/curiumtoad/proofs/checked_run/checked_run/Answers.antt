@@ -10,7 +10,7 @@ use Rattle.curiumtoad.proofs.checked_run.checked_run.Goals as goal
 pub returns-in-Ok : goal.returns-in-Ok
 unfolding check_call run_call
 returns-in-Ok c =
-    let h = c.in-Ok.ensures in
+    let h = c.in-Ok.ensures.begins in
     let checked = ready h _ c.check_in.ensures in
     let ran = ready h _ c.run_in.ensures in
     record {
@@ -23,7 +23,7 @@ returns-in-Ok c =
 pub returns-in-Err : goal.returns-in-Err
 unfolding check_call run_call
 returns-in-Err c =
-    let h = c.in-Err.ensures in
+    let h = c.in-Err.ensures.begins in
     let checked = c.early.ensures ∙ (refused_early h _).0 in
     let ran = refused_early h _ in
     record {

@@ -19,9 +19,9 @@ pub returns-in_err-bundle : goal.returns-in_err-bundle
 unfolding accepted_call
 returns-in_err-bundle c =
     let p = err_from_is_err_and c.from_residual.result c.from_residual.ensures.1 in
-    let r = refused_early c.in_err-bundle.ensures _ in
+    let r = refused_early c.in_err-bundle.ensures.begins _ in
     rw (p.1, p.2) (record { result_value = r.0; ends_soundly = soundly r.0; scratch_after = r.1 })
 
 pub returns : goal.returns
 unfolding accepted_call
-returns c = let r = ready c.in_ok-bundle.ensures _ c.accepted_in.ensures in record { result_value = r.0; ends_soundly = soundly r.0; scratch_after = r.1 }
+returns c = let r = ready c.in_ok-bundle.ensures.begins _ c.accepted_in.ensures in record { result_value = r.0; ends_soundly = soundly r.0; scratch_after = r.1 }

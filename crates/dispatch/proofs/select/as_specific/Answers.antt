@@ -2,12 +2,12 @@
 use Rattle.std.proofs.Common.{sym, ◌∙◌}
 use Rattle.rules.specs.Lookup.{as_specific}
 use Rattle.subclasses.proofs.Asked.{specialisers_long, specialisers_classes}
-use Rattle.dispatch.proofs.select.Candidates.as_specific.Goals as goal
+use Rattle.dispatch.proofs.select.as_specific.Goals as goal
 
 pub each_under-requires : goal.each_under-requires
 each_under-requires c =
     let p = c.requires in
-    let o = c.args.self.now.prepared.now.bundle.opened in
+    let o = c.args.prepared.now.bundle.opened in
     let own = c.specialisers-own.ensures.result_value in
     let other = c.specialisers-other.ensures.result_value in
     record {
